@@ -92,6 +92,9 @@ class Promises(Watch):
     def forget(self) -> None:
         self.told: dict[int, bytes] = {}
         self.outstanding: set[int] = set()
+        # All connections of this front; lines of those that vanished, which were told or dropped.
+        self.wires: list[Wire] = []
+        self.uncertain: set[bytes] = set()
         self.came: dict[str, deque[tuple[Wire, bytes]]] = {name: deque() for name in ROLES}
         self.answered = dict.fromkeys(ROLES, 0)
         self.has_admitted = False
@@ -113,6 +116,11 @@ class Promises(Watch):
                 # By 93 or 95 nothing is answered.
                 if answer[:6] not in HANDED_TO_NOBODY:
                     self.given.setdefault(self.told.pop(session), set()).add(answer)
+            case events.Opened(number):
+                self.wires.append(world.wires[number])
+            case events.Reloaded():
+                for wire in self.wires:
+                    wire.is_barred = wire.is_barred or bool(wire.name) and wire.token != token(wire.name, world.tokens[wire.name])
             case events.ServerGone() | events.ServerFailed():
                 self.outstanding.clear()
             case events.Stop():
@@ -152,7 +160,7 @@ class Promises(Watch):
             case effects.Finish(why):
                 self.look_at_time(world)
                 require(bool(why or world.published or world.said), Promise.ENDS, "it ended in silence")
-                require(not why.startswith("the file has"), Promise.NOTHING_LOST, why)
+                require(not why.startswith(("the file has", "the server ended by")), Promise.NOTHING_LOST, why)
 
     def look_at_answer(self, world: World, wire: Wire, line: bytes) -> None:
         require(line[:6] not in HANDED_TO_NOBODY, Promise.NO_93, line)
@@ -197,8 +205,8 @@ class Promises(Watch):
 
     def look_at_sender(self, world: World, name: str, line: bytes) -> None:
         require(not refusal(name, line), Promise.RIGHTS, (name, line))
-        senders = [wire for wire in world.wires.values() if wire.name == name and line in wire.taken]
-        require(bool(senders), Promise.RIGHTS, f"nobody there has sent {line!r}")
+        senders = [wire for wire in self.wires if wire.name == name and line in wire.taken]
+        require(bool(senders), Promise.RIGHTS, f"nobody has sent {line!r}")
         require(not all(wire.is_barred for wire in senders), Promise.REVOKED, line)
         if is_command(line):
             require(Left(name, line) in world.disk.beside.values(), Promise.BESIDE_FIRST, line)
@@ -210,11 +218,13 @@ class Promises(Watch):
         """No other line of the name had its turn before this one. Lines of a connection that is gone, or whose token went, have none."""
         while came:
             wire, other = came.popleft()
-            if wire.is_barred or world.wires.get(wire.number) is not wire or (other != line and other == b"SHOW"):
+            is_gone = world.wires.get(wire.number) is not wire
+            if wire.is_barred or (other != line and (is_gone or other == b"SHOW" or other in self.uncertain)):
                 continue
             require(other == line, Promise.TOLD_IN_ORDER, f"{line!r} before {other!r}")
+            self.uncertain |= {line} if is_gone else set()
             return
-        raise Broken(Promise.TOLD_IN_ORDER, f"{line!r} is told once more")
+        require(line in self.uncertain, Promise.TOLD_IN_ORDER, f"{line!r} is told once more")
 
     def look_at_entry(self, world: World, line: str, answer: str) -> None:
         pair = (line, answer)

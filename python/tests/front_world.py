@@ -369,8 +369,6 @@ class World:
     def reload(self, name: str, number: int) -> None:
         """A name has another token, or none."""
         self.tokens = {**self.tokens, name: number}
-        for wire in self.wires.values():
-            wire.is_barred = wire.is_barred or (wire.name == name and wire.token != token(name, number))
         self.post(events.Reloaded(self.limits, tokens_of(self.tokens)))
 
 

@@ -82,7 +82,7 @@ def revoked_token_answered(patch: pytest.MonkeyPatch) -> None:
 
 def revoked_line_told(patch: pytest.MonkeyPatch) -> None:
     """Lines that wait go to the server, though their connection's token went."""
-    patch.setattr(sessions, "is_dropped", lambda step, item: item.connection not in step.front.connections)
+    patch.setattr(sessions, "is_dropped", lambda step, item: False)
 
 
 def stop_waits_for_ever(patch: pytest.MonkeyPatch) -> None:
@@ -102,11 +102,9 @@ def last_connection_first(patch: pytest.MonkeyPatch) -> None:
 
     def backwards(step: Step, item: Item) -> None:
         queue(step, item)
-        token = step.front.connections[item.connection].token
-        assert token
-        *others, last = step.front.names[token.name].items
+        *others, last = step.front.names[item.token.name].items
         if all(other.connection != item.connection for other in others):
-            step.set_name(token.name, items=(last, *others))
+            step.set_name(item.token.name, items=(last, *others))
 
     patch.setattr(clients, "queue", backwards)
 

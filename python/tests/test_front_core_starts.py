@@ -1,11 +1,11 @@
-"""How a front's core starts: what it finds in the file and the record, and when it doesn't let anybody in."""
+"""How a front's core starts and ends: the commands that it finds, when it lets nobody in, and the last line that it waits for."""
 from __future__ import annotations
 
 import random
 
 import pytest
 
-from front_world import ROLES, Server, Watch, World
+from front_world import ROLES, Server, Watch, Wire, World, token
 from hpb.front.core import effects, events
 from hpb.front.core.events import Left
 from hpb.front.core.ledger import Foreign, Held, Ledger
@@ -138,6 +138,53 @@ def test_a_stop_before_anybody_is_let_in_ends_at_once_and_says_so(moves: int) ->
     assert not world.is_admitting
     world.post(events.Stop())
     assert world.ends == [""] and world.said[-1] == "it was told to stop before clients were let in"
+
+
+# The end.
+
+
+class Deaf:
+    """A client that hears nothing."""
+
+    def hear(self, wire: Wire, line: bytes) -> None:
+        pass
+
+
+def asking() -> tuple[World, Wire]:
+    """A world whose server has a bid that isn't judged, and the connection that sent it."""
+    world = running()
+    wire = world.connect(Deaf(), "1")
+    assert wire
+    wire.inbox.extend([b"TOKEN " + token("bob", 1), b"BID y 1 b 150"])
+    while not world.server.asked:
+        world.move_wires()
+        world.move_disk()
+    return world, wire
+
+
+def ended(world: World) -> World:
+    """Once it is told to stop, and has ended."""
+    world.post(events.Stop())
+    for _ in range(1000):
+        if world.front is None:
+            return world
+        world.move_server()
+        world.move_disk()
+    raise AssertionError("it doesn't end")
+
+
+@pytest.mark.parametrize("vanishes", [False, True])
+def test_a_command_that_the_server_has_is_waited_for_at_the_end(vanishes: bool) -> None:
+    """Also if its client has vanished: else the file would have a command more than the record."""
+    world, wire = asking()
+    if vanishes:
+        world.hang_up(wire)
+        while world.wires:
+            world.move_wires()
+    ended(world)
+    assert world.ends == [""] and world.published[-1].startswith("STOPPED 2 ")
+    assert world.disk.accepted()[1:] == [("BID y 1 b 150", "OK 2")]
+    assert (wire.heard[-1] == b"OK 2") is not vanishes
 
 
 # The ledger.

@@ -183,7 +183,7 @@ def take_line(step: Step, number: int, line: bytes) -> None:
         return
     token = step.front.connections[number].token
     if token:
-        take_in_turn(step, number, Item(number, line, step.front.names[token.name].role.refusal(line)))
+        take_in_turn(step, Item(number, token, line, step.front.names[token.name].role.refusal(line)))
     else:
         know(step, number, line)
     let_send(step, number)
@@ -193,8 +193,8 @@ def take_long(step: Step, number: int, beginning: bytes) -> None:
     """What stands behind the beginning of a line that is too long is never looked at: the connection ends."""
     if not may_take(step, number):
         return
-    if step.front.connections[number].token:
-        take_in_turn(step, number, Item(number, beginning, LONG))
+    if token := step.front.connections[number].token:
+        take_in_turn(step, Item(number, token, beginning, LONG))
     else:
         dismiss(step, number, UNKNOWN)
 
@@ -203,17 +203,16 @@ def take_end(step: Step, number: int, rest: bytes) -> None:
     """Half a line at the end is refused; then the connection goes, once all is answered."""
     if not may_take(step, number):
         return
-    step.set_connection(number, has_ended=True, going=Going.LEAVES)
-    if rest and step.front.connections[number].token:
-        queue(step, Item(number, rest, FORM))
+    token = step.set_connection(number, has_ended=True, going=Going.LEAVES).token
+    if rest and token:
+        queue(step, Item(number, token, rest, FORM))
     go_when_answered(step, number)
 
 
-def take_in_turn(step: Step, number: int, item: Item) -> None:
+def take_in_turn(step: Step, item: Item) -> None:
     """Takes a line now, or once its name may send one more."""
-    token = step.front.connections[number].token
-    assert token
-    if seconds := wait_seconds(step, token.name):
+    number = item.connection
+    if seconds := wait_seconds(step, item.token.name):
         step.set_connection(number, held=item)
         step.do(Wait(number, seconds))
         return
@@ -228,7 +227,7 @@ def wait_over(step: Step, number: int) -> None:
     """A line that had to wait is looked at again."""
     connection = step.front.connections[number]
     if connection.held and connection.going == Going.STAYS:
-        take_in_turn(step, number, connection.held)
+        take_in_turn(step, connection.held)
         let_send(step, number)
 
 
@@ -244,9 +243,8 @@ def wait_seconds(step: Step, name: str) -> float:
 def queue(step: Step, item: Item) -> None:
     """A line that is to be answered waits for its turn."""
     connection = step.front.connections[item.connection]
-    assert connection.token
     step.set_connection(item.connection, waiting=connection.waiting + 1, taken=connection.taken + 1)
-    name, known = connection.token.name, step.front.names[connection.token.name]
+    name, known = item.token.name, step.front.names[item.token.name]
     step.set_name(name, items=(*known.items, item))
     if not known.items:
         step.set_session(known.session, turns=(*step.front.sessions[known.session].turns, name))

@@ -41,12 +41,17 @@ def go_on(step: Step) -> None:
 
 def is_answering(step: Step) -> bool:
     """Whether a line waits for its answer, or a close for what it came to."""
-    return step.front.waiting > 0 or any(one.stage == Stage.TOLD and one.purpose == For.CLOSE for one in step.front.sessions)
+    return step.front.waiting > 0 or busy(step) > 0
+
+
+def busy(step: Step) -> int:
+    """How many sessions have a line of a name, which the server may have: its connection may be gone."""
+    return sum(one.stage is not Stage.FREE and one.purpose is not For.BOARD for one in step.front.sessions)
 
 
 def close(step: Step) -> None:
     """The last entry of the record. From here on the server gets no line of a name."""
-    left = step.front.waiting
+    left = max(step.front.waiting, busy(step))
     if left:
         step.say(f"{left} lines that were taken have no answer, as when a disk hangs: their clients send them again")
     step.set(phase=Phase.CLOSING, left=left)

@@ -51,7 +51,7 @@ def go_on(step: Step, places: Iterable[int]) -> None:
 
 def begin(step: Step, place: int, name: str, item: Item) -> None:
     """One line. If its connection is gone, or its token, the line is dropped."""
-    if is_dropped(step, item):
+    if is_dropped(step, item) or item.connection not in step.front.connections:
         clients.drop(step, item.connection)
     elif item.refusal:
         answer = refused(item.refusal)
@@ -68,9 +68,9 @@ def begin(step: Step, place: int, name: str, item: Item) -> None:
 
 
 def is_dropped(step: Step, item: Item) -> bool:
-    """Whether nobody is there any more who may be answered."""
+    """Whether the token went by which a line came."""
     connection = step.front.connections.get(item.connection)
-    return connection is None or connection.is_barred
+    return connection.is_barred if connection else item.token not in step.front.tokens.known
 
 
 def take_beside(step: Step, places: tuple[int, ...]) -> None:

@@ -62,6 +62,7 @@ class Item:
     """A line that waits, whose it is, and by which word the front refuses it, if it does."""
 
     connection: int
+    token: Token
     line: bytes
     refusal: str | None = None
 
