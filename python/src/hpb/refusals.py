@@ -121,7 +121,7 @@ class BeyondEligibility(Refused, number=25, word="eligibility"):
 
 class TooManyCommands(Refused, number=26, word="limit"):
     meaning = "1,000,000 commands have been accepted"
-    advice = "nothing more can be accepted, a close neither"
+    advice = "nothing more can be accepted, not even a close"
 
 
 class NoFurtherStage(Refused, number=27, word="stage"):
@@ -142,8 +142,8 @@ class WaivedAlready(Refused, number=29, word="waived"):
 class Unformatted(Refused, number=40, word="unformatted"):
     meaning = "the file keeps no auction: it never did, or it was cut or overwritten"
     advice = (
-        "if it kept one, leave it as it is, and go back to your newest backup; is it the right file? If hpb format was stopped, run it again with"
-        " the same words"
+        "is it the right file? If it kept an auction, leave it as it is, and go back to your newest backup. If hpb format was stopped, run it again"
+        " with the same words"
     )
 
 
