@@ -257,12 +257,12 @@ class Failed(Refused, number=93, word="failed"):
 
 
 class NoPlace(Refused, number=94, word="place"):
-    meaning = "no room was had for a session, before any was taken"
+    meaning = "there was no room for a session, before any connection was taken"
     advice = "free some memory, or give fewer to --sessions"
 
 
 class OutOfOrder(Refused, number=95, word="order"):
-    meaning = "a session had another answer than that to its command"
+    meaning = "the answer that came to a session wasn't the one to its command"
     advice = "a fault of hpb: see after a 95"
 
 
