@@ -9,7 +9,6 @@ import sys
 import time
 from collections.abc import Callable
 
-from hpb.front.config import Config
 from hpb.front.core.effects import AnswerBoard, StartBoard
 from hpb.front.core.events import BoardAsks, BoardUp, Event
 from hpb.front.faults import Stops
@@ -30,10 +29,8 @@ class Board:
     """Keeps the process. What it asks doesn't stand in the record, since nobody sent it. `reloading` has the terms that are in force, and
     `shown` those that the page was given."""
 
-    def __init__(
-        self, config: Config, reloading: Reload, listener: socket.socket, post: Callable[[Event], None], begin: Begin, shell: Shell
-    ) -> None:
-        self.config, self.reloading, self.listener, self.post, self.begin = config, reloading, listener, post, begin
+    def __init__(self, reloading: Reload, listener: socket.socket, post: Callable[[Event], None], begin: Begin, shell: Shell) -> None:
+        self.config, self.reloading, self.listener, self.post, self.begin = reloading.config, reloading, listener, post, begin
         self.say, self.log = shell.teller.say, shell.log
         self.child: Child | None = None
         self.shown: Terms | None = None

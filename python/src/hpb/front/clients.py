@@ -11,7 +11,7 @@ from typing import Protocol
 from hpb.front.core.effects import Abort, Answer, End, Take, Wait
 from hpb.front.core.events import Came, Event, Gone, Line, LinesEnded, Opened, Stuffed, TooLong, Waited
 from hpb.front.limits import BURST_SECONDS
-from hpb.front.log import Log
+from hpb.front.shell import Shell
 from hpb.front.terms import Terms
 from hpb.front.tls import Handshakes, Tls
 
@@ -153,10 +153,10 @@ class Rates:
 
 
 class Clients:
-    """Takes connections, and does with each as the front has it. `terms` gives those in force."""
+    """Takes connections, and does with each as the front has it. `terms` are those in force."""
 
-    def __init__(self, listener: socket.socket, terms: Terms, post: Post, log: Log, say: Callable[[str], None], fail: Callable[[str], None]) -> None:
-        self.listener, self.terms, self.post, self.log, self.say = listener, terms, post, log, say
+    def __init__(self, listener: socket.socket, terms: Terms, post: Post, shell: Shell, fail: Callable[[str], None]) -> None:
+        self.listener, self.terms, self.post, self.log, self.say = listener, terms, post, shell.log, shell.teller.say
         self.is_tls = terms.certificate is not None
         self.connections: dict[int, Connection] = {}
         self.numbers = itertools.count(1)

@@ -41,11 +41,11 @@ class Running:
             may_be_foreign=shell.given.foreign, record=config.record_name(), address=f"{host} {port}",
         )
         self.machine = Machine(new_front(setting, terms.limits, terms.tokens, loop.time()), loop.time)
-        post, say, log = self.machine.post, shell.teller.say, shell.log
-        self.reloading = Reload(config, terms, self.take_terms, say, log)
+        post = self.machine.post
+        self.reloading = Reload(config, terms, self.take_terms, shell.teller.say, shell.log)
         self.server = Server(config, post, self.begin)
-        self.clients = Clients(sockets[0], terms, post, log, say, self.fail_from_thread)
-        self.board = Board(config, self.reloading, sockets[1], post, self.begin, shell) if config.board else None
+        self.clients = Clients(sockets[0], terms, post, shell, self.fail_from_thread)
+        self.board = Board(self.reloading, sockets[1], post, self.begin, shell) if config.board else None
         self.admitting: asyncio.Task[None] | None = None
         self.connect_shells()
 

@@ -135,7 +135,8 @@ def release(step: Step) -> None:
 
 def note_foreign(step: Step, foreign: Foreign) -> None:
     """Numbers that were given to commands which didn't come through this front."""
-    step.say(f"commands {foreign.first} to {foreign.last} of the auction stand in no record: this front didn't tell them, and {WHERE_THE_AUDIT_ENDS}")
+    numbers = f"commands {foreign.first} to {foreign.last} of the auction"
+    step.say(f"{numbers} stand in no record: this front didn't tell them, and {WHERE_THE_AUDIT_ENDS}")
     step.write("foreign", **{"from": foreign.first, "to": foreign.last})
     step.set_ledger(count=foreign.last)
 
