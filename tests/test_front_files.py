@@ -31,7 +31,7 @@ def configured(folder: Path, log: str = "", **fields: str) -> Path:
 
 
 def read(path: Path) -> None:
-    Config(path)  # type: ignore[no-untyped-call]
+    Config(path)
 
 
 def refusal(path: Path) -> str:
