@@ -64,6 +64,7 @@ def followed(program: Program, room: Path, serve: Serve, tools: Tools, browser: 
     """A board whose page the browser has opened, and has followed to the third round."""
     server = serve(program.keep(room / "F", (), RULES), 2)
     tool, site = tools.board(server.port, "--bidders", "x,y,w")
+    wait_until(lambda: site.get("/tree.svg")[0] == 200, SECONDS, "the picture that the page asks for")
     browser.get(f"http://127.0.0.1:{site.port}/")
     wait_until(lambda: text(browser, "clock") not in (None, "\N{EN DASH}"), SECONDS, "the page is there")
     count = 0
