@@ -136,6 +136,22 @@ def test_a_signal_while_the_page_comes_up_reaches_it(front: Front) -> None:
     assert front.stop().status == 0
 
 
+@pytest.mark.parametrize("has_board", [True, False])
+def test_a_board_that_comes_or_goes_stays_as_it_was(front: Front, has_board: bool) -> None:
+    """The page is there until the front ends, or isn't before another front."""
+    front.has_board = has_board
+    front.write_config()
+    front.start()
+    front.has_board = not has_board
+    front.write_config()
+    front.signal(signal.SIGHUP)
+    front.wait_until_said("these stay as they were until the front is started again: board")
+    front.wait_until_said(READ_AGAIN)
+    assert front.client("ann").ask("BID x 1 a 100") == "OK 1"
+    assert not has_board or shows(front) == 200
+    assert front.stop().status == 0
+
+
 FIRST_MOMENT = """
 import os, signal, sys
 class Hook:

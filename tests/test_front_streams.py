@@ -82,6 +82,16 @@ def test_a_configuration_that_is_named_in_another_way(front: Front, option: str)
     assert front.record.read_bytes() == b""
 
 
+@pytest.mark.parametrize("words", ["--config other --config C", "--config C --config other", "--config=other --c C"])
+def test_of_several_configurations_each_is_looked_at(front: Front, words: str) -> None:
+    """The last one counts, and another one may be named first."""
+    (front.folder / "other").write_text("colour = 1\n")
+    for number in (1, 2):
+        command = f"exec {' '.join(tool_words('front'))} {words} {number}>> R"
+        assert subprocess.run(["bash", "-c", command], cwd=front.folder, capture_output=True, timeout=60).returncode == 2
+        assert front.record.read_bytes() == b""
+
+
 def test_a_name_that_was_added_isnt_written_into_the_tokens(front: Front) -> None:
     before = front.tokens.read_bytes()
     assert shell(front, ">> T", "tokens", "add", "ann").returncode == 2

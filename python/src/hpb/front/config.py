@@ -18,6 +18,7 @@ from hpb.front.network import Address
 from hpb.front.rights import AUCTIONEER, BIDDER, OBSERVER, Role
 from hpb.front.tokens import TokenFile
 from hpb.limits import NAME
+from hpb.own_files import read_regular
 from hpb.refusals import Refused
 from hpb.rules.tree import Tree, tree_of
 
@@ -205,8 +206,7 @@ class Config:
 
 def read_toml(path: str | os.PathLike[str]) -> Table:
     try:
-        with open(path, "rb") as file:
-            return tomllib.load(file)
+        return tomllib.loads(read_regular(path).decode())
     except OSError as fault:
         raise Wrong(f"{path}: {fault.strerror}") from None
     except (tomllib.TOMLDecodeError, UnicodeDecodeError) as fault:
