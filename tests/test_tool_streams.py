@@ -7,11 +7,13 @@ import socket
 import subprocess
 import time
 from collections.abc import Iterator, Sequence
+from contextlib import suppress
 from pathlib import Path
 
 import pytest
 from harness.fronts import Configured, LetIn, tool_words, with_package
 from harness.programs import Program
+from harness.serving import Serve
 
 from hpb.streams import lines_of
 
@@ -195,4 +197,32 @@ def test_lines_come_whole_in_whatever_parts(size: int) -> None:
         os.write(write, text[at : at + size])
     os.close(write)
     assert list(lines_of(read)) == [b"BID x 1 a 100\n", b"\n", b"WHO x\n", b"\n", b"\n", b"SHOW\n", b"half"]
+    os.close(read)
+
+
+def test_a_page_goes_on_though_nobody_reads_what_it_says(file: Path, serve: Serve) -> None:
+    """More connections than there may be descriptors, which it tells on a standard error that is full."""
+    server = serve(file)
+    definition = file.with_name("definition.json")
+    definition.write_bytes(ran("", ["definition", file]).stdout)
+    read, write = os.pipe()
+    os.set_blocking(write, False)
+    with suppress(BlockingIOError):
+        while True:
+            os.write(write, b"x" * 65_536)
+    os.set_blocking(write, True)
+    words = [*tool_words("board"), "--port", str(server.port), "--definition", str(definition), "--listen", "127.0.0.1:0"]
+    command = ["sh", "-c", 'ulimit -n 16; exec "$@"', "sh", *words]
+    with subprocess.Popen(command, stdout=subprocess.PIPE, stderr=write, env=ENVIRONMENT) as board:
+        os.close(write)
+        assert board.stdout
+        place = ("127.0.0.1", int(board.stdout.readline().decode().strip().rstrip("/").rsplit(":", 1)[1]))
+        crowd = [socket.create_connection(place) for _ in range(30)]
+        time.sleep(1)
+        for one in crowd:
+            one.close()
+        with socket.create_connection(place, SECONDS) as viewer:
+            viewer.sendall(b"GET / HTTP/1.1\r\nHost: localhost\r\n\r\n")
+            assert viewer.recv(12) == b"HTTP/1.1 200"
+        board.terminate()
     os.close(read)

@@ -109,7 +109,8 @@ class Config:
     """What a configuration says. Paths in it are those of its folder."""
 
     def __init__(self, path: str | os.PathLike[str]) -> None:
-        self.path = str(pathlib.Path(path).resolve())
+        # The name as it was given: a link may lead elsewhere by the time it is read again.
+        self.path = os.path.abspath(path)
         given = read_toml(path)
         for field in given:
             if field not in FIELDS:
@@ -206,7 +207,7 @@ class Config:
 
 def read_toml(path: str | os.PathLike[str]) -> Table:
     try:
-        return tomllib.loads(read_regular(path).decode())
+        return tomllib.loads(read_regular(os.fspath(path)).decode())
     except OSError as fault:
         raise Wrong(f"{path}: {fault.strerror}") from None
     except (tomllib.TOMLDecodeError, UnicodeDecodeError) as fault:
