@@ -129,7 +129,7 @@ def test_an_output_that_takes_nothing_is_told(
 
 @pytest.fixture
 def listener() -> Iterator[socket.socket]:
-    """Where a client is answered."""
+    """A socket at which a client is answered."""
     with socket.create_server(("127.0.0.1", 0)) as made:
         made.settimeout(SECONDS)
         yield made

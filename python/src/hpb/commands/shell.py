@@ -33,7 +33,7 @@ def from_shell(main: Callable[[], int]) -> Callable[[], int]:
         _hold_streams()
         try:
             return _ended(main)
-        except BrokenPipeError:  # Who read it is gone, and knows.
+        except BrokenPipeError:  # Its reader is gone, and knows.
             pass
         except _OutputFails as fault:
             say(f"standard output can't be written: {fault}")

@@ -43,7 +43,7 @@ def segment_path(path: str, number: int) -> str:
 def segment_paths(path: str) -> list[str]:
     """The segments that there are, in order. Another file with the name of one, as a copy with a date behind its name, is passed over, also
     one that may not be read. A WrongSegment says that a segment is missing, an InTheWay that another file stands in its place, or in that of
-    the next one, and a PermissionError that what stands there may not be read."""
+    the next one. A PermissionError says that the file there may not be read."""
     folder, name = os.path.split(os.path.abspath(path))
     try:
         there = {number for found in os.listdir(folder) if (number := number_of(found, name))}
