@@ -13,6 +13,8 @@ from fronts import ADDRESS, Caller, Front, make_certificate, token_of
 from harness.serving import wait_until
 from test_front_tokens import id_of
 
+from hpb.front.log import Log, Rotated
+
 SECRET = "a-token-that-nobody-has-0123"
 
 
@@ -57,6 +59,20 @@ def test_each_connection_and_each_token_stands_in_the_log(front: Front) -> None:
     text = front.log.read_text()
     assert SECRET not in text and not any(token_of(name) in text for name in front.names)
     assert front.log.stat().st_mode & 0o777 == 0o600
+
+
+def test_a_token_in_a_line_or_a_path_isnt_written(room: Path) -> None:
+    """Wherever it stands. Names, numbers and short words are."""
+    token = "WeSU47wBdlc16WNG2a-3T9yRfjLLTu0f"
+    log = Log(Rotated(str(room / "log"), 1_000_000, 2)).start()
+    for line in (token, f"HELLO {token}", f"XTOKEN={token}", f"NODE {token}", f"WHO\t{token}", f"TOKEN {token}", f"x{token}\r"):
+        log.write("answered", name="ann", line=line, answer="ERR front line")
+    log.write("page", peer="127.0.0.1 1", name=None, path=f"/{token}", status=404)
+    kept = "BID bay_of_the_state 4294967295 bay_of_the_state 18446744073709551615"
+    log.write("answered", name="ann", line=kept, answer="ERR 23 high")
+    log.end(5)
+    text = (room / "log").read_text()
+    assert token not in text and kept in text and text.count("\n") == 9
 
 
 def test_what_is_asked_for_at_the_page_stands_in_the_log(front: Front) -> None:

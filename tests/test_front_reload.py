@@ -136,6 +136,38 @@ def test_a_signal_while_the_page_comes_up_reaches_it(front: Front) -> None:
     assert front.stop().status == 0
 
 
+def test_a_configuration_by_a_link_is_read_where_the_link_leads_now(front: Front) -> None:
+    front.write_config()
+    old, new = front.folder / "C.old", front.folder / "C.new"
+    front.config.rename(old)
+    front.config.symlink_to(old)
+    front.start()
+    front.config.unlink()
+    front.limits = {"line_bytes": 32}
+    front.write_config()
+    front.config.rename(new)
+    front.config.symlink_to(new)
+    front.signal(signal.SIGHUP)
+    front.wait_until_said(READ_AGAIN)
+    assert front.client("ann").ask("BID x 1 a 10000000000000000000000000000") == "ERR front long"
+
+
+@pytest.mark.parametrize("has_board", [True, False])
+def test_a_board_that_comes_or_goes_stays_as_it_was(front: Front, has_board: bool) -> None:
+    """The page is there until the front ends, or isn't before another front."""
+    front.has_board = has_board
+    front.write_config()
+    front.start()
+    front.has_board = not has_board
+    front.write_config()
+    front.signal(signal.SIGHUP)
+    front.wait_until_said("these stay as they were until the front is started again: board")
+    front.wait_until_said(READ_AGAIN)
+    assert front.client("ann").ask("BID x 1 a 100") == "OK 1"
+    assert not has_board or shows(front) == 200
+    assert front.stop().status == 0
+
+
 FIRST_MOMENT = """
 import os, signal, sys
 class Hook:

@@ -2,16 +2,23 @@
 
 from __future__ import annotations
 
+import fcntl
 import os
+import pty
 import re
+import select
+import signal
 import subprocess
+import termios
 from collections.abc import Iterator
+from contextlib import ExitStack
 from pathlib import Path
 
 import pytest
 from fronts import Caller, Front, token_of
-from harness.fronts import tool_words
+from harness.fronts import tool_words, with_package
 from harness.programs import Program
+from harness.serving import wait_until
 from test_front_tokens import id_of, tokens
 
 FULL = "/dev/full"
@@ -82,6 +89,16 @@ def test_a_configuration_that_is_named_in_another_way(front: Front, option: str)
     assert front.record.read_bytes() == b""
 
 
+@pytest.mark.parametrize("words", ["--config other --config C", "--config C --config other", "--config=other --c C"])
+def test_of_several_configurations_each_is_looked_at(front: Front, words: str) -> None:
+    """The last one counts, and another one may be named first."""
+    (front.folder / "other").write_text("colour = 1\n")
+    for number in (1, 2):
+        command = f"exec {' '.join(tool_words('front'))} {words} {number}>> R"
+        assert subprocess.run(["bash", "-c", command], cwd=front.folder, capture_output=True, timeout=60).returncode == 2
+        assert front.record.read_bytes() == b""
+
+
 def test_a_name_that_was_added_isnt_written_into_the_tokens(front: Front) -> None:
     before = front.tokens.read_bytes()
     assert shell(front, ">> T", "tokens", "add", "ann").returncode == 2
@@ -133,6 +150,35 @@ def test_tokens_that_cannot_be_shown(front: Front) -> None:
     [id] = [id for name, id in tokens(front, "list") if name == "ann" and id != id_of(token_of("ann"))]
     last = f"{SAID_FULL}. The token {id} was added, and nobody has seen it: revoke it, and add another\n"
     assert (ran.returncode, ran.stderr) == (1, f"front: a front that runs takes this in by SIGHUP\n{last}")
+
+
+def test_a_terminal_that_stops_who_writes_from_the_background(front: Front, cleanup: ExitStack) -> None:
+    """By `stty tostop`, in the session of a shell that has started the front by `&`."""
+    for name in ("R", "R.2", "R.asked"):
+        (front.folder / name).unlink()
+    mine, its = pty.openpty()
+    cleanup.callback(os.close, mine)
+    modes = termios.tcgetattr(its)
+    modes[3] |= termios.TOSTOP
+    termios.tcsetattr(its, termios.TCSANOW, modes)
+    script = f"{' '.join(front.words())} > {front.folder}/written & echo $! > {front.folder}/number; wait; sleep 60"
+    shell = subprocess.Popen(
+        ["bash", "--norc", "-m", "-c", script], stdin=its, stdout=its, stderr=its, env=with_package(os.environ), start_new_session=True,
+        preexec_fn=lambda: fcntl.ioctl(0, termios.TIOCSCTTY, 0),
+    )
+    os.close(its)
+    cleanup.callback(shell.kill)
+    written, number = front.folder / "written", front.folder / "number"
+    wait_until(lambda: written.exists() and written.read_text().startswith("LISTENING "), 30, "a front in the background")
+    process = int(number.read_text())
+    cleanup.callback(os.kill, process, signal.SIGKILL)
+    front.port = int(written.read_text().split()[2])
+    os.kill(process, signal.SIGHUP)
+    said = b""
+    while b"were read again" not in said:
+        assert select.select([mine], [], [], 20)[0], said
+        said += os.read(mine, 10_000)
+    assert front.client("ann", seconds=20).ask("BID x 1 a 100") == "OK 1"
 
 
 def test_a_terminal_that_is_set_not_to_block_is_waited_for(front: Front) -> None:

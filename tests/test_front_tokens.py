@@ -134,6 +134,10 @@ def test_lines_that_wait_when_a_token_goes_are_not_told(front: Front) -> None:
         ("config", "colour: there is no such field"),
         ("limits", "limits.connections"),
         ("certificate", "certificate"),
+        ("pipe C", "it is no regular file"),
+        ("pipe S", "it is no regular file"),
+        ("pipe K", "it is no regular file"),
+        ("pipe T", "it is no regular file"),
     ],
 )
 def test_a_bad_file_is_refused_and_the_old_one_stays(front: Front, what: str, word: str) -> None:
@@ -147,6 +151,10 @@ def test_a_bad_file_is_refused_and_the_old_one_stays(front: Front, what: str, wo
         front.tokens.chmod(0o644)
     elif what == "config":
         front.write_config(certificate="S", key="K", colour="red")
+    elif what.startswith("pipe "):
+        # Nobody writes into it: who waited for that would wait for ever.
+        (front.folder / what[-1]).unlink()
+        os.mkfifo(front.folder / what[-1], 0o600)
     elif what == "limits":
         front.limits = {"connections": 0}
         front.write_config(certificate="S", key="K")

@@ -73,6 +73,29 @@ def test_a_copy_with_a_number_that_no_segment_needs_is_passed_over(name: str, tm
     assert copy.read_bytes() == before
 
 
+@pytest.fixture
+def as_nobody(nobody: User) -> Iterator[None]:
+    """This process has the rights of the user nobody."""
+    os.setegid(nobody.gid)
+    os.seteuid(nobody.uid)
+    yield
+    os.seteuid(0)
+    os.setegid(0)
+
+
+def test_a_copy_that_may_not_be_read_is_passed_over_too(shared: Path, as_nobody: None) -> None:
+    """A backup that root made. In the place of a segment it is named: it may be that segment."""
+    path = shared / "R"
+    written(path, 2).close()
+    copy = Path(shutil.copy(path, shared / "R.20261130"))
+    copy.chmod(0)
+    assert count(path) == 2 and len(read_record(path)[0]) == 3
+    copy.rename(shared / "R.2")
+    with pytest.raises(PermissionError) as told:
+        count(path)
+    assert told.value.filename == str(shared / "R.2")
+
+
 def test_a_copy_in_the_place_of_the_next_segment_is_named(tmp_path: Path) -> None:
     """This changes nothing. Once the copy is moved, the record can be continued."""
     path = tmp_path / "R"

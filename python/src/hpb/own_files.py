@@ -32,6 +32,14 @@ def open_own(path: str, how: int, may_make: bool = True) -> int:
     return file
 
 
+def read_regular(path: str) -> bytes:
+    """All bytes of a regular file, whoever owns it. An OSError says that it is none: a pipe would be waited for."""
+    with open(os.open(path, os.O_RDONLY | os.O_CLOEXEC | os.O_NONBLOCK), "rb") as file:
+        if not stat.S_ISREG(os.fstat(file.fileno()).st_mode):
+            raise OSError(errno.EINVAL, "it is no regular file", path)
+        return file.read()
+
+
 def look_at_owner(path: str, status: os.stat_result) -> None:
     """Raises OSError if it is no regular file, or if somebody else owns it or may write it."""
     if not stat.S_ISREG(status.st_mode):

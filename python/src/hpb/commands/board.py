@@ -15,6 +15,7 @@ import threading
 from collections.abc import Callable
 
 from hpb.commands import parser
+from hpb.commands.shell import from_shell, say
 from hpb.pages.following import Follower, NotFollowed, at_port
 from hpb.pages.options import add_options, followed
 from hpb.pages.server import Server
@@ -22,6 +23,7 @@ from hpb.pages.walls import Anybody, Wall
 from hpb.refusals import HpbError, says
 
 
+@from_shell
 def main() -> int:
     """Reads the arguments, and returns the status."""
     signal.signal(signal.SIGTERM, lambda *_: sys.exit(0))
@@ -30,7 +32,7 @@ def main() -> int:
     except KeyboardInterrupt:
         return 0
     except HpbError as fault:
-        print(f"board: {says(fault)}", file=sys.stderr)
+        say(says(fault))
     return 1
 
 

@@ -26,9 +26,10 @@ import time
 from typing import BinaryIO
 
 from hpb.commands import parser
+from hpb.commands.shell import from_shell, say
 from hpb.pages.reaching import ENDS, GivesUp, add_options, connected, context_of, look_at_options, read_place, read_token
 from hpb.plain import plain
-from hpb.streams import STANDARD_OUTPUT, hold_closed_streams, write_all
+from hpb.streams import STANDARD_INPUT, STANDARD_OUTPUT, lines_of, write_all
 
 # The longest answer, with its LF: docs/PROTOCOL.md.
 MOST_ANSWER = 104 + 1
@@ -57,7 +58,7 @@ class Client:
                     raise GivesUp(f"no answer {whose}") from None
                 if silent and waited > SILENCE:
                     silent = False
-                    print(f"client: no answer yet {plain(whose)}. It is tried again, for a minute in all", file=sys.stderr)
+                    say(f"no answer yet {whose}. It is tried again, for a minute in all")
             time.sleep(PAUSE)
 
     def told(self, line: bytes) -> bytes:
@@ -96,22 +97,22 @@ def read_words() -> argparse.Namespace:
     return given
 
 
+@from_shell
 def main() -> int:
     """Reads the arguments, and returns the status."""
-    hold_closed_streams()
     given = read_words()
     try:
         client = Client(given.place)
         if given.token:
             client = Client(given.place, read_token(given.token, given.name), context_of(given))
-        for line in sys.stdin.buffer:
+        for line in lines_of(STANDARD_INPUT):
             if not line.endswith(b"\n"):
                 raise GivesUp("the last line has no LF and may be half a line: it isn't sent")
             write_all(STANDARD_OUTPUT, shown(client.ask(line)))
     except (BrokenPipeError, KeyboardInterrupt):
         return 1
     except (GivesUp, OSError, UnicodeDecodeError) as fault:
-        print(f"client: {plain(fault)}", file=sys.stderr)
+        say(fault)
         return 1
     return 0
 

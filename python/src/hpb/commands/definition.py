@@ -8,11 +8,13 @@ open a file with this head. Standard error then says why, with the number and wo
 import sys
 
 from hpb.commands import the_file, write_out
+from hpb.commands.shell import from_shell, say
 from hpb.file import read_head, read_image
 from hpb.refusals import Refused, says
 from hpb.rules.writing import definition_line
 
 
+@from_shell
 def main() -> int:
     """Reads the arguments, and returns the status."""
     path = the_file(__doc__)
@@ -21,7 +23,7 @@ def main() -> int:
     try:
         write_out(definition_line(read_head(read_image(path, is_quiet=False)).definition))
     except Refused as fault:
-        print(f"definition: {says(fault)}", file=sys.stderr)
+        say(says(fault))
         return 1
     return 0
 

@@ -16,6 +16,7 @@ from collections.abc import Callable, Mapping
 from typing import Any
 
 from hpb.commands import the_file
+from hpb.commands.shell import from_shell, say
 from hpb.plain import plain
 from hpb.rules.activity import activity_needed
 
@@ -106,6 +107,7 @@ def warn_of_activity(definition: Object, licences: int, warnings: list[str]) -> 
                 break
 
 
+@from_shell
 def main() -> int:
     """Reads the arguments, and returns the status."""
     path = the_file(__doc__)
@@ -116,13 +118,13 @@ def main() -> int:
         with open(path, encoding="utf-8") as file:
             warn(read(file.read(), warnings), warnings)
     except NoDefinition as fault:
-        print(f"explain: {fault}", file=sys.stderr)
+        say(fault)
         return 2
     except OSError as fault:
-        print(f"explain: {plain(fault)}", file=sys.stderr)
+        say(fault)
         return 2
     except (AttributeError, KeyError, TypeError, ValueError, RecursionError):
-        print("explain: this definition is refused; hpb says why", file=sys.stderr)
+        say("this definition is refused; hpb says why")
         return 2
     for warning in warnings:
         print(plain(warning))

@@ -22,11 +22,13 @@ docs/FRONT.md says what that proves and what it doesn't. The status is:
 """
 import argparse
 import json
+import os
 import pathlib
 import sys
 from collections.abc import Iterator, Sequence
 
 from hpb.commands import parser
+from hpb.commands.shell import from_shell, output_leads_to, say
 from hpb.drawing.charts import Panel, picture
 from hpb.plain import plain
 from hpb.record import Damaged, Entry, record_entries
@@ -35,17 +37,24 @@ from hpb.record.story import Story, read_story
 from hpb.refusals import HpbError, says
 
 _MOST_TOLD = 20
+_PICTURE = b"<svg"
 
 
+class _WritesNot(Exception):
+    """What is written would take the place of something else."""
+
+
+@from_shell
 def main() -> int:
     """Reads the arguments, and returns the status."""
     given = _read_words()
     faults: Sequence[str]
     try:
+        _look_at_places(given.svg)
         faults = _found_wrong(given)
     except BrokenPipeError:
         return 1
-    except Damaged as fault:
+    except (Damaged, _WritesNot) as fault:
         faults = [str(fault)]
     except HpbError as fault:
         faults = [says(fault)]
@@ -54,9 +63,9 @@ def main() -> int:
     except (AttributeError, LookupError, TypeError, ValueError) as fault:
         faults = [f"the record has an entry that no front writes: {fault!r}"]
     for said in faults[:_MOST_TOLD]:
-        print(f"replay: {plain(said)}", file=sys.stderr)
+        say(said)
     if len(faults) > _MOST_TOLD:
-        print(f"replay: and {len(faults) - _MOST_TOLD} more", file=sys.stderr)
+        say(f"and {len(faults) - _MOST_TOLD} more")
     return 1 if faults else 0
 
 
@@ -69,6 +78,19 @@ def _read_words() -> argparse.Namespace:
     words.add_argument("--svg", help="the file for the picture")
     words.add_argument("--commands", type=int, metavar="FROM", help="print only the commands from this number on")
     return words.parse_args()
+
+
+def _look_at_places(svg: str | None) -> None:
+    """Where output and picture go. A `_WritesNot` says that output leads into one of the files, or that the picture's name is another
+    file's."""
+    if name := output_leads_to():
+        raise _WritesNot(f"standard output leads to {name}: lead it elsewhere")
+    if svg is None or not os.path.isfile(svg):
+        return
+    with open(svg, "rb") as file:
+        begun = file.read(len(_PICTURE))
+    if begun not in (b"", _PICTURE):
+        raise _WritesNot(f"{svg} is there, and is no picture: name another file by --svg")
 
 
 def _found_wrong(given: argparse.Namespace) -> Sequence[str]:

@@ -20,6 +20,7 @@ The status is:
 import sys
 
 from hpb.commands import parser, write_out
+from hpb.commands.shell import from_shell, say
 from hpb.drawing.tree import whole_picture
 from hpb.file import read_image
 from hpb.refusals import HpbError, says
@@ -29,6 +30,7 @@ from hpb.report.page import page
 _NOT_RIGHT = 3
 
 
+@from_shell
 def main() -> int:
     """Reads the arguments, and returns the status."""
     words = parser(__doc__)
@@ -40,10 +42,10 @@ def main() -> int:
         report = read_report(chosen.program, read_image(chosen.file))
         write_out(whole_picture(report.tree, report.told) if chosen.picture else page(report))
     except HpbError as fault:
-        print(f"report: {says(fault)}", file=sys.stderr)
+        say(says(fault))
         return 1
     for wrong in report.faults:
-        print(f"report: not right: {wrong}", file=sys.stderr)
+        say(f"not right: {wrong}")
     return _NOT_RIGHT if report.faults else 0
 
 

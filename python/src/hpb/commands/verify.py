@@ -17,6 +17,7 @@ import pathlib
 import sys
 
 from hpb.commands import the_file
+from hpb.commands.shell import from_shell, say
 from hpb.refusals import HpbError, says
 from hpb.rules.checking import Wrong, check_sums
 from hpb.rules.told import read_told
@@ -24,6 +25,7 @@ from hpb.rules.tree import tree_of
 from hpb.rules.writing import read_script
 
 
+@from_shell
 def main() -> int:
     """Reads the arguments, and returns the status."""
     path = the_file(__doc__)
@@ -38,10 +40,10 @@ def main() -> int:
         print(f"Wrong: {wrong}.")
         return 1
     except HpbError as missing:
-        print(f"verify: {says(missing)}", file=sys.stderr)
+        say(says(missing))
         return 2
     except (OSError, UnicodeError) as missing:
-        print(f"verify: {missing}", file=sys.stderr)
+        say(missing)
         return 2
     print(f"So no choice of these bids brings more than {told.shown.revenue}.")
     return 0

@@ -23,6 +23,7 @@ import tty
 from typing import Final
 
 from hpb.commands import parser
+from hpb.commands.shell import from_shell, say
 from hpb.pages.following import Follower, NotFollowed, at_port
 from hpb.pages.options import add_options, at_front, followed
 from hpb.pages.reaching import look_at_options
@@ -194,6 +195,7 @@ def _shown(given: argparse.Namespace) -> int:
     return Screen(watch, style).run() if is_terminal and sys.stdin.isatty() else as_lines(watch, style)
 
 
+@from_shell
 def main() -> int:
     """Reads the arguments, and returns the status."""
     given = _read_words()
@@ -205,7 +207,7 @@ def main() -> int:
     except BrokenPipeError:
         os.dup2(os.open(os.devnull, os.O_WRONLY), sys.stdout.fileno())
     except HpbError as fault:
-        print(f"watch: {says(fault)}", file=sys.stderr)
+        say(says(fault))
     return 1
 
 

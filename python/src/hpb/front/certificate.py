@@ -10,6 +10,7 @@ from dataclasses import dataclass, field
 
 from hpb.front.faults import Wrong
 from hpb.front.tokens import read_private
+from hpb.own_files import read_regular
 
 DAY_SECONDS = 86_400
 # So many days before its end that is told, and how often.
@@ -36,8 +37,7 @@ class Certificate:
         """A key that others may read is refused, as is one that isn't the certificate's."""
         private = read_private(key or certificate).encode()
         try:
-            with open(certificate, "rb") as file:
-                return cls.of(file.read() if key else private, private)
+            return cls.of(read_regular(certificate) if key else private, private)
         except (OSError, ValueError) as fault:
             raise Wrong(f"certificate: {fault}") from None
 

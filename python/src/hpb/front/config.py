@@ -18,6 +18,7 @@ from hpb.front.network import Address
 from hpb.front.rights import AUCTIONEER, BIDDER, OBSERVER, Role
 from hpb.front.tokens import TokenFile
 from hpb.limits import NAME
+from hpb.own_files import read_regular
 from hpb.refusals import Refused
 from hpb.rules.tree import Tree, tree_of
 
@@ -108,7 +109,8 @@ class Config:
     """What a configuration says. Paths in it are those of its folder."""
 
     def __init__(self, path: str | os.PathLike[str]) -> None:
-        self.path = str(pathlib.Path(path).resolve())
+        # The name as it was given: a link may lead elsewhere by the time it is read again.
+        self.path = os.path.abspath(path)
         given = read_toml(path)
         for field in given:
             if field not in FIELDS:
@@ -205,8 +207,7 @@ class Config:
 
 def read_toml(path: str | os.PathLike[str]) -> Table:
     try:
-        with open(path, "rb") as file:
-            return tomllib.load(file)
+        return tomllib.loads(read_regular(os.fspath(path)).decode())
     except OSError as fault:
         raise Wrong(f"{path}: {fault.strerror}") from None
     except (tomllib.TOMLDecodeError, UnicodeDecodeError) as fault:

@@ -8,6 +8,7 @@ import errno
 import json
 import os
 import queue
+import re
 import socket
 import threading
 import time
@@ -30,6 +31,9 @@ LOOKED_AT = 4_096
 MOST_WAITING = 10_000
 # As much is kept of a text: no field of a front is longer, but by mistake.
 MOST_TEXT = 400
+# What others write, and what may be a token in that: neither a name nor a number of docs/PROTOCOL.md.
+SAID_BY_OTHERS = ("line", "path")
+MAY_BE_TOKEN = re.compile(r"(?<![!-~])(?![a-z0-9_]{16}(?![!-~])|[0-9]{16,20}(?![!-~]))[!-~]{16,}")
 # Seconds between two lines of kind `left_out`, and between two warnings that nothing can be written.
 COUNT_SECONDS, WARN_SECONDS = 1.0, 60.0
 BURST_SECONDS = 2
@@ -250,11 +254,13 @@ def line_of(kind: str, fields: dict[str, Field]) -> bytes:
 
 
 def shown(name: str, value: Field) -> Field:
-    """A field as it may be read by anyone: a line that says a token doesn't say which."""
+    """A field as it may be read by anyone: a line or a path that has a token doesn't say which."""
     if not isinstance(value, str):
         return value
     if name == "line" and value.lstrip().lower().startswith("token"):
         return "TOKEN .."
+    if name in SAID_BY_OTHERS:
+        value = MAY_BE_TOKEN.sub("..", value)
     return value if len(value) <= MOST_TEXT else f"{value[:MOST_TEXT]}.."
 
 

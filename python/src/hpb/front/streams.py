@@ -10,6 +10,7 @@ import tomllib
 from collections.abc import Iterator, Sequence
 
 from hpb.front.files import Identity, Kept, identities, of_change, of_log, of_record
+from hpb.own_files import read_regular
 from hpb.streams import STANDARD_ERROR, STANDARD_OUTPUT
 
 STREAMS = {STANDARD_OUTPUT: "standard output", STANDARD_ERROR: "standard error"}
@@ -22,9 +23,10 @@ MOST_LOGS = 1_000
 def streams_lead_astray(words: Sequence[str]) -> bool:
     """Whether a stream of a front with these words leads into one of its files. Then that is said on the other one, if it doesn't."""
     leads = {number: found for number in STREAMS if (found := regular(number))}
-    if not leads or (path := config_in(words)) is None:
+    if not leads:
         return False
-    into = {number: (field, name) for field, name in files_of(path) for number, found in leads.items() if found in identities(name)}
+    named = [known for config in configs_in(words) for known in files_of(config)]
+    into = {number: (field, name) for field, name in named for number, found in leads.items() if found in identities(name)}
     for number, (field, name) in into.items():
         said = f"front: {STREAMS[number]} leads to {name}, which is the {field} or stands beside it: lead it elsewhere\n"
         for other in STREAMS.keys() - into.keys():
@@ -38,13 +40,12 @@ def regular(stream: int) -> Identity | None:
     return (status.st_dev, status.st_ino) if stat.S_ISREG(status.st_mode) else None
 
 
-def config_in(words: Sequence[str]) -> str | None:
-    """The configuration that is named, by an abbreviation as well."""
+def configs_in(words: Sequence[str]) -> Iterator[str]:
+    """Each configuration that is named, by an abbreviation as well: of several the last one counts, if the words are right."""
     for place, word in enumerate(words):
         name, is_joined, value = word.partition("=")
         if len(name) > 2 and CONFIG.startswith(name):
-            return value if is_joined else words[place + 1] if words[place + 1 :] else None
-    return None
+            yield from [value] if is_joined else words[place + 1 : place + 2]
 
 
 def files_of(config: str) -> Iterator[tuple[str, str]]:
@@ -58,7 +59,7 @@ def files_of(config: str) -> Iterator[tuple[str, str]]:
 
 def kept_in(path: pathlib.Path) -> Iterator[Kept]:
     try:
-        given = tomllib.loads(path.read_text("utf-8"))
+        given = tomllib.loads(read_regular(str(path)).decode())
     except (OSError, ValueError, RecursionError):
         return
     texts = {field: str(path.parent / value) for field, value in given.items() if isinstance(value, str)}

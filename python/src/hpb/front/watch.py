@@ -25,6 +25,8 @@ ATTEMPTS = 20
 def hold_signals() -> None:
     """They wait for `Watch`. It has to come before the first thread, since threads have the mask of those that start them."""
     signal.pthread_sigmask(signal.SIG_BLOCK, SIGNALS)
+    # By `stty tostop` a terminal stops whoever writes to it from the background.
+    signal.signal(signal.SIGTTOU, signal.SIG_IGN)
 
 
 def free_signals() -> None:

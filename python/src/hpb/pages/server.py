@@ -1,6 +1,8 @@
 """Serves an auction's page to the browsers that may see it, with its events, and limits each viewer (docs/BOARD.md)."""
 import collections
 import contextlib
+import os
+import select
 import socket
 import socketserver
 import ssl
@@ -14,6 +16,7 @@ from typing import Any, Final
 from hpb.pages.page import HEADERS, ICONS, PICTURE, PICTURE_POLICY
 from hpb.pages.requests import REQUEST_SECONDS, Bad, Request, is_own, read_request
 from hpb.pages.walls import MOST_VIEWERS, Guests, Wall
+from hpb.streams import STANDARD_ERROR
 
 MOST_CONNECTIONS: Final = 256
 # If a viewer doesn't take an event for so long, the connection ends, and the page makes another one.
@@ -45,6 +48,13 @@ Note = Callable[[str, str | None, str | None, int], None]
 
 def _no_note(peer: str, name: str | None, path: str | None, status: int) -> None:
     """This server keeps no notes about requests."""
+
+
+def _cry(text: str) -> None:
+    """On standard error, if that takes it at once: no viewer waits until somebody reads it."""
+    with contextlib.suppress(OSError):
+        if select.select([], [STANDARD_ERROR], [], 0)[1]:
+            os.write(STANDARD_ERROR, f"board: {text}\n".encode(errors="backslashreplace"))
 
 
 class Viewer(socketserver.BaseRequestHandler):
@@ -205,7 +215,7 @@ class Server(socketserver.ThreadingTCPServer):
         then tried again.
         """
         if not self._is_refused:
-            print(f"board: a connection can't be taken: {fault.strerror or fault}", file=sys.stderr)
+            _cry(f"a connection can't be taken: {fault.strerror or fault}")
         self._is_refused = True
         time.sleep(_ROOM_SECONDS)
 
@@ -260,4 +270,4 @@ class Server(socketserver.ThreadingTCPServer):
 
     def handle_error(self, request: object, address: object) -> None:
         """For `socketserver`."""
-        print(f"board: {sys.exc_info()[1]!r}", file=sys.stderr)
+        _cry(repr(sys.exc_info()[1]))

@@ -41,8 +41,9 @@ def segment_path(path: str, number: int) -> str:
 
 
 def segment_paths(path: str) -> list[str]:
-    """The segments that there are, in order. Another file with the name of one, as a copy with a date behind its name, is passed over. A
-    WrongSegment says that a segment is missing, and an InTheWay that another file stands in its place, or in that of the next one."""
+    """The segments that there are, in order. Another file with the name of one, as a copy with a date behind its name, is passed over, also
+    one that may not be read. A WrongSegment says that a segment is missing, an InTheWay that another file stands in its place, or in that of
+    the next one. A PermissionError says that the file there may not be read."""
     folder, name = os.path.split(os.path.abspath(path))
     try:
         there = {number for found in os.listdir(folder) if (number := number_of(found, name))}
@@ -52,6 +53,7 @@ def segment_paths(path: str) -> list[str]:
     last = max(known, default=0)
     for number in range(1, max(last, 1) + 2):
         if number in there - known:
+            look_whether_readable(segment_path(path, number))
             raise InTheWay(segment_path(name, number))
         if number <= last and number not in known:
             raise WrongSegment(f"its segment {segment_path(name, number)} is missing")
@@ -65,9 +67,16 @@ def begins_segment(path: str, number: int) -> bool:
         return False
     try:
         head, _ = head_of(path)
-    except Damaged:
+    except (Damaged, PermissionError):
         return False
     return bool(head["kind"] == "begin" and head["segment"] == number)
+
+
+def look_whether_readable(path: str) -> None:
+    """A PermissionError says that a file may not be read: it may be a segment."""
+    if stat.S_ISREG(os.lstat(path).st_mode):
+        with open(path, "rb"):
+            pass
 
 
 def number_of(found: str, name: str) -> int:

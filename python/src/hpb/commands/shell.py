@@ -1,0 +1,134 @@
+"""What a command finds in the shell that started it: standard streams that are closed, that fail, or that lead into a file it is given.
+
+What a command says is never written into an auction's file or a record, nor in the place of an answer.
+"""
+import contextlib
+import functools
+import io
+import os
+import re
+import stat
+import sys
+from collections.abc import Callable, Iterator
+from typing import Any
+
+from hpb.commands import program_name
+from hpb.plain import plain
+from hpb.streams import STANDARD_ERROR, STANDARD_OUTPUT, hold_closed_streams, write_all
+
+# What stands beside a record, behind its name and a dot.
+_BESIDE = re.compile(r"asked|[1-9][0-9]*")
+_FAILED = 1
+
+
+def from_shell(main: Callable[[], int]) -> Callable[[], int]:
+    """A command's `main` with standard streams that can be used.
+
+    If standard error leads into a file that a word names nothing is said. If standard output can't be written that is said, and the status
+    isn't 0.
+    """
+
+    @functools.wraps(main)
+    def called() -> int:
+        _hold_streams()
+        try:
+            return _ended(main)
+        except BrokenPipeError:  # Its reader is gone, and knows.
+            pass
+        except _OutputFails as fault:
+            say(f"standard output can't be written: {fault}")
+        # What it didn't take isn't tried again.
+        _lead_nowhere(STANDARD_OUTPUT)
+        return _FAILED
+
+    return called
+
+
+def _ended(main: Callable[[], int]) -> int:
+    """The status, once standard output has all that was printed."""
+    try:
+        status = main()
+    except SystemExit as ended:  # Help, or wrong words.
+        status = ended.code if isinstance(ended.code, int) else _FAILED
+    sys.stdout.flush()
+    return status
+
+
+class _OutputFails(Exception):
+    """Standard output can't be written, and the system's words for it."""
+
+
+class _Output(io.RawIOBase):
+    """Standard output, which is waited for if it is set not to block."""
+
+    def writable(self) -> bool:
+        return True
+
+    def fileno(self) -> int:
+        return STANDARD_OUTPUT
+
+    def isatty(self) -> bool:
+        return os.isatty(STANDARD_OUTPUT)
+
+    def write(self, data: Any) -> int:
+        try:
+            write_all(STANDARD_OUTPUT, bytes(data))
+        except BrokenPipeError:
+            raise
+        except OSError as fault:
+            raise _OutputFails(fault.strerror) from None
+        return len(data)
+
+
+def say(text: object) -> None:
+    """A line on standard error, behind the command's name. A stream that takes nothing is no reason to end."""
+    with contextlib.suppress(OSError):
+        write_all(STANDARD_ERROR, f"{program_name()}: {plain(text)}\n".encode())
+
+
+def output_leads_to() -> str:
+    """The file that standard output leads to, if a word names it or one that it stands beside; else an empty text."""
+    return _named_by(STANDARD_OUTPUT)
+
+
+def _hold_streams() -> None:
+    """A closed stream stays closed: nothing gets its number, and nothing that was for it goes elsewhere."""
+    hold_closed_streams()
+    if _named_by(STANDARD_ERROR):
+        _lead_nowhere(STANDARD_ERROR)
+    sys.stdin = sys.stdin or open(0, closefd=False)
+    known, raw = sys.stdout, _Output()
+    encoding, errors = (known.encoding, known.errors) if known else ("utf-8", "strict")
+    sys.stdout = io.TextIOWrapper(io.BufferedWriter(raw), encoding, errors, line_buffering=raw.isatty())
+    sys.stderr = sys.stderr or open(os.devnull, "w")
+
+
+def _lead_nowhere(stream: int) -> None:
+    nowhere = os.open(os.devnull, os.O_WRONLY | os.O_CLOEXEC)
+    os.dup2(nowhere, stream)
+    os.close(nowhere)
+
+
+def _named_by(stream: int) -> str:
+    """The file of the words that a stream leads to, or that stands beside one as a segment does; empty if there is none."""
+    found = os.fstat(stream)
+    if not stat.S_ISREG(found.st_mode):
+        return ""
+    for word in sys.argv[1:]:
+        for name in (word, word.partition("=")[2]):
+            for path in _with_those_beside(name):
+                with contextlib.suppress(OSError, ValueError):
+                    if os.path.samestat(os.stat(path), found):
+                        return path
+    return ""
+
+
+def _with_those_beside(name: str) -> Iterator[str]:
+    folder, own = os.path.split(name)
+    if not own:
+        return
+    yield name
+    with contextlib.suppress(OSError, ValueError):
+        for other in os.listdir(folder or "."):
+            if other.startswith(f"{own}.") and _BESIDE.fullmatch(other.removeprefix(f"{own}.")):
+                yield os.path.join(folder, other)
