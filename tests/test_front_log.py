@@ -8,6 +8,7 @@ import signal
 import socket
 import ssl
 import time
+from pathlib import Path
 
 from fronts import ADDRESS, Caller, Front, make_certificate, token_of
 from harness.serving import wait_until

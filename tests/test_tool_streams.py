@@ -11,7 +11,8 @@ from contextlib import suppress
 from pathlib import Path
 
 import pytest
-from harness.fronts import Configured, LetIn, tool_words, with_package
+from fronts import Front
+from harness.fronts import tool_words, with_package
 from harness.programs import Program
 from harness.serving import Serve
 
@@ -31,12 +32,12 @@ def ran(redirection: str, words: Sequence[object], text: bytes = b"") -> subproc
 
 
 @pytest.fixture
-def recorded(configured: Configured, let_in: LetIn) -> Configured:
-    """A front's configuration whose record has a bid."""
-    front = let_in(configured.write())
+def recorded(front: Front) -> Front:
+    """A front that has ended, whose record has a bid."""
+    front.start()
     assert front.client("ann").ask("BID x 1 a 100") == "OK 1"
     assert front.stop().status == 0
-    return configured
+    return front
 
 
 def contents(folder: Path) -> dict[str, bytes]:
@@ -62,7 +63,7 @@ def contents(folder: Path) -> dict[str, bytes]:
         "verify F 2>>F",
     ],
 )
-def test_no_tool_writes_into_a_file_that_it_is_given(line: str, recorded: Configured, program: Program) -> None:
+def test_no_tool_writes_into_a_file_that_it_is_given(line: str, recorded: Front, program: Program) -> None:
     """Whatever it has to say of it, or of its words."""
     before = contents(recorded.folder)
     words = line.replace("--program nothing", f"--program {program.path}").split()
@@ -72,8 +73,8 @@ def test_no_tool_writes_into_a_file_that_it_is_given(line: str, recorded: Config
     assert contents(recorded.folder) == before
 
 
-@pytest.mark.parametrize("name", ["R", "R.asked", "R.log", "F", "front.toml", "tokens"])
-def test_a_picture_takes_no_files_place(name: str, recorded: Configured, program: Program) -> None:
+@pytest.mark.parametrize("name", ["R", "R.asked", "R.log", "F", "C", "T"])
+def test_a_picture_takes_no_files_place(name: str, recorded: Front, program: Program) -> None:
     before = contents(recorded.folder)
     words = ["replay", recorded.record, "--program", program.path, "--svg", recorded.folder / name]
     ended = ran("", words)
@@ -82,7 +83,7 @@ def test_a_picture_takes_no_files_place(name: str, recorded: Configured, program
     assert contents(recorded.folder) == before
 
 
-def test_a_picture_takes_the_place_of_a_picture(recorded: Configured, program: Program) -> None:
+def test_a_picture_takes_the_place_of_a_picture(recorded: Front, program: Program) -> None:
     words = ["replay", recorded.record, "--program", program.path, "--svg", recorded.folder / "rounds.svg"]
     assert ran("", words).returncode == 0
     drawn = (recorded.folder / "rounds.svg").read_bytes()
@@ -116,7 +117,7 @@ def test_a_closed_input_is_an_empty_one(file: Path) -> None:
 @pytest.mark.parametrize("redirection", [">/dev/full", ">&-"])
 @pytest.mark.parametrize("tool", ["replay", "explain"])
 def test_an_output_that_takes_nothing_is_told(
-    tool: str, redirection: str, unbuffered: str, recorded: Configured, program: Program, monkeypatch: pytest.MonkeyPatch
+    tool: str, redirection: str, unbuffered: str, recorded: Front, program: Program, monkeypatch: pytest.MonkeyPatch
 ) -> None:
     definition = recorded.folder / "definition.json"
     text = ran("", ["definition", recorded.file]).stdout.replace(b'"stages":[80,95]', b'"stages":[95,80]')
