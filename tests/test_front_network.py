@@ -9,6 +9,7 @@ import signal
 import socket
 import subprocess
 import sys
+import time
 from collections.abc import Iterator
 from contextlib import ExitStack
 
@@ -24,6 +25,8 @@ from hpb.front import network as front_network
 from hpb.front.network import Address, Refused, bound, take
 
 RESTARTS, MOST_SESSIONS = 100, 32
+# For how many seconds a front is stopped behind every tenth restart.
+STOPPED, STOPPED_EACH = 0.5, 10
 BID = b"BID y 1 b 150\n"
 
 # A script for the other user. It reads the listening ports from /proc, for each process that it may look at, connects to each of
@@ -76,12 +79,16 @@ def scanner(nobody: User, own: int, cleanup: ExitStack) -> subprocess.Popen[byte
     return process
 
 
-def kill_server(front: Front) -> None:
-    """Kills the server, and returns once there is another one."""
+def kill_server(front: Front, stopped: float = 0) -> None:
+    """Kills the server, and returns once there is another one. The front is stopped for these seconds then, so a stranger has time."""
     wait_until(lambda: front.child("serve") != 0, 30, "a server")
     server = front.child("serve")
     os.kill(server, signal.SIGKILL)
     wait_until(lambda: front.child("serve") not in (0, server), 30, "another server")
+    if stopped:
+        front.signal(signal.SIGSTOP)
+        time.sleep(stopped)
+        front.signal(signal.SIGCONT)
 
 
 @pytest.fixture
@@ -98,8 +105,8 @@ def test_another_user_reaches_no_server_over_100_restarts(many: Front, nobody: U
     process = scanner(nobody, front.port, cleanup)
     caller = Caller(front, "ann")
     assert caller.ask("BID x 1 a 100") == "OK 1"
-    for _ in range(RESTARTS):
-        kill_server(front)
+    for number in range(RESTARTS):
+        kill_server(front, stopped=0 if number % STOPPED_EACH else STOPPED)
         assert caller.ask("SHOW") == "ROUND 1 STAGE 1 OPEN REVENUE 0 COUNT 1"
     process.kill()
     assert process.communicate()[0] == b""
@@ -120,7 +127,7 @@ def test_the_same_user_reaches_a_server_on_a_shared_network(many: Front, nobody:
     caller = Caller(front, "ann", seconds=20)
     with contextlib.suppress(AssertionError, TimeoutError):
         for _ in range(RESTARTS):
-            kill_server(front)
+            kill_server(front, stopped=STOPPED)
             caller.ask("SHOW")
             if select.select([process.stdout], [], [], 0)[0]:
                 break
