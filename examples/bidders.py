@@ -1,4 +1,4 @@
-"""Clients of a served file that bid at the same time, each in its own name, and what they were answered."""
+"""Clients that bid on a served file at the same time, each in its own name, and the answers that they got."""
 import select
 import socket
 import time
@@ -10,23 +10,24 @@ LICENCES = 64
 FAILED = "ERR 93 failed"
 NO_MORE = 2
 LOOK = 0.05
-# After a 93 the last session that goes on stays so long: people are told of a failed disk while there is one.
+# How many seconds the last session stays open after a 93. People are informed of a failed disk only while a session is
+# open.
 STAYS = 0.05
 
 
 def bids_of(place):
-    """One on each licence, all of which are accepted, in whatever order those of all bidders come."""
+    """One bid on each licence, all of which are accepted in whatever order the bids of all bidders come."""
     return [f"BID b{place} {ticket} l{ticket - 1} 100" for ticket in range(1, LICENCES + 1)]
 
 
 class Bidder:
-    """It sends a bid once the one before is answered. After the first that is answered by 93 it asks for the auction, bids once
+    """Sends a bid once the one before is answered. After the first answer 93 it asks for the auction, bids once
     more, and ends."""
 
     def __init__(self, place, port, bids=LICENCES):
         self.place, self.session = place, Session(port)
         self.left = bids_of(place)[:bids]
-        # The number of each bid that was accepted, in their order, and what was answered by 93.
+        # The number of each accepted bid, in their order, and the bids that were answered by 93.
         self.numbers, self.failed = {}, []
         self.counts, self.wrong = [], []
         self.line, self.since, self.is_ending, self.has_ended = None, time.monotonic(), False, False
@@ -46,7 +47,7 @@ class Bidder:
             else:
                 self.session.send(line.encode() + b"\n")
         except OSError:
-            # What is read next tells that the connection was lost.
+            # The next read tells that the connection was lost.
             pass
 
     def next_line(self):
@@ -55,7 +56,7 @@ class Bidder:
         return self.left.pop(0) if self.left and len(self.failed) < NO_MORE else None
 
     def read(self, is_last=False):
-        """Takes the answer that has come, and sends what is next."""
+        """Takes the answer that has come, and sends the next line."""
         try:
             answer = self.session.line()
         except OSError as error:
@@ -83,7 +84,8 @@ class Bidder:
 
 
 def attend(bidders, seconds, after=0, action=None):
-    """Lets them bid until all have ended, or one has waited so long for an answer. After so many answers something may be done."""
+    """Lets them bid until all have ended, or one has waited too long for an answer. After so many answers `action`
+    is called."""
     for bidder in bidders:
         bidder.send_next()
     going, answers = list(bidders), 0

@@ -1,9 +1,9 @@
-"""Which calls of the system a program makes of a file, as examples/file-calls.c writes them down."""
+"""The system calls that a program makes of a file, as examples/file-calls.c writes them."""
 import os
 import pathlib
 import subprocess
 
-# How many numbers a line has behind the result, by the call; another one has its descriptor.
+# For each call, how many numbers a line has after the result. Any other call has one, its descriptor.
 NUMBERS = {"lock": 2, "advise": 4, "take": 2, "read": 3, "write": 3, "put": 2, "cut": 2}
 NAMED = ("link", "rename", "unlink")
 FLAGS = {"O_CREAT": "made", "O_TRUNC": "emptied", "O_EXCL": "not there", "O_APPEND": "at its end", "O_DIRECT": "direct", "O_DSYNC": "synced"}
@@ -12,7 +12,7 @@ LOCKS = {1 | 4: "shared", 2 | 4: "alone"}
 
 
 def build(folder, name="file-calls"):
-    """A library that is loaded before the C library."""
+    """Builds a library that is loaded before the C library."""
     library = folder / f"{name}.so"
     source = pathlib.Path(__file__).resolve().parent / f"{name}.c"
     words = [os.environ.get("CC", "cc"), "-O1", "-shared", "-fPIC", "-pthread", "-o", str(library), str(source), "-ldl"]
@@ -21,28 +21,28 @@ def build(folder, name="file-calls"):
 
 
 class Shim:
-    """What writes down the calls of a program, of one run at a time, into a file of this folder."""
+    """Has a library write the calls of a program to a file in this folder, one run at a time."""
 
     def __init__(self, library, folder):
         self.library, self.lines = library, folder / "calls"
 
     def environment(self, lie=""):
-        """That of a program whose calls are written down, from the first one on."""
+        """The environment of a program whose calls are written from the first one on."""
         self.lines.unlink(missing_ok=True)
         return {**os.environ, "LD_PRELOAD": str(self.library), "CALLS": str(self.lines), "LIE": lie}
 
     def sees(self):
-        """Whether it saw anything written, as it does not where a program loads no library."""
+        """Whether the library saw any write. It sees none if a program doesn't load the library."""
         return self.lines.exists() and " put " in self.lines.read_text()
 
     def calls(self, file, link=None):
-        """Those of a file, its folder and the streams, each with its thread; the file may be opened by a link."""
+        """The calls of a file, its folder and the streams, each with its thread. The file may be opened by a link."""
         seen = Seen(file, link)
         return [(thread, call) for line in self.lines.read_text().splitlines() for thread, call in seen.call(line)]
 
 
 class Seen:
-    """Calls by what they are made of: descriptors and paths are given the names that they have for a file."""
+    """Calls of a program on a file. Descriptors and paths get the names that they have for this file."""
 
     def __init__(self, file, link):
         self.folder = os.path.dirname(file) or "."
@@ -52,11 +52,11 @@ class Seen:
         self.open = {1: "output"}
 
     def role(self, path):
-        """What else stands in the folder has its own path."""
+        """The name for a path. Any other file of the folder has its own path, and the rest has None."""
         return self.roles.get(path, path if path.startswith(f"{self.folder}/") else None)
 
     def call(self, line):
-        """The thread and the call, unless it is of something else."""
+        """The thread and the call, unless it is about something else."""
         thread, name, result, rest = line.split(" ", 3)
         result = int(result)
         words = rest.split(" ")
@@ -96,7 +96,7 @@ def opened_how(flags):
 
 
 def failure(name, result, more):
-    """What a call adds that failed, or that was short."""
+    """What a failed or short call adds to its line."""
     if name in ("read", "write", "put"):
         size = more[-1] if name == "read" else len(more[-1])
         return () if result == size else (f"made of {result}",)
@@ -104,7 +104,7 @@ def failure(name, result, more):
 
 
 def told(call):
-    """A call in words."""
+    """Puts a call into words."""
     name, of, *more = call
     if name == "write":
         at, data, *rest = more
@@ -113,7 +113,7 @@ def told(call):
 
 
 def difference(found, wanted):
-    """The first call that is another than the wanted one."""
+    """Describes the first call that differs from the wanted one."""
     for place in range(max(len(found), len(wanted))):
         some, other = (told(calls[place]) if place < len(calls) else "none" for calls in (found, wanted))
         if found[place : place + 1] != wanted[place : place + 1]:
@@ -122,7 +122,7 @@ def difference(found, wanted):
 
 
 def differs_at(found, wanted):
-    """Where two writes differ first that have their place and length in common."""
+    """The first place at which two writes of the same place and length differ."""
     for some, other in zip(found, wanted):
         if some[:3] == other[:3] and some[0] == "write" and len(some[3]) == len(other[3]):
             return next((f" (byte {place} differs)" for place in range(len(some[3])) if some[3][place] != other[3][place]), "")

@@ -1,5 +1,5 @@
-"""The bytes of a file as docs/FORMATS.md and docs/DEVICE.md have them, and the auctions of docs/RULES.md that they keep, worked
-out apart from the program."""
+"""The bytes of a file as docs/FORMATS.md and docs/DEVICE.md describe them, and the auctions of docs/RULES.md that
+they keep. Worked out apart from the program."""
 import json
 
 from outside import CELLS, DEFINITION, PAGE, PAGES, pages_of
@@ -30,7 +30,7 @@ def name(text):
 
 
 def head(layout, journal, waivers=0, form=WAIVERS_FORMAT):
-    """What stands behind the head's gate: the first three pages from byte 16 on."""
+    """What follows the head's gate: the first three pages from byte 16 on."""
     pages = bytearray(3 * PAGE)
 
     def put(at, part):
@@ -53,7 +53,7 @@ class Image:
     """The bytes of a file, put together place by place."""
 
     def __init__(self, layout, journal, waivers=0, form=WAIVERS_FORMAT):
-        """One that was just made, by this program or by an earlier one."""
+        """A file that was just made, by this program or by an earlier one."""
         self.layout, self.journal = layout, journal
         self.bytes = bytearray(pages_of(journal, layout) * PAGE)
         self.put(0, OPEN)
@@ -71,7 +71,7 @@ class Image:
         return frame_at(self.layout, self.journal, index)
 
     def put_batch(self, index, first, lines):
-        """Puts a batch into its frame, and gives how many bytes its body was written by."""
+        """Puts a batch into its frame. Gives the length of its body in bytes."""
         body = body_of(self.layout, index, first, [record(line) for line in lines])
         self.put(self.frame(index), OPEN)
         self.put(self.frame(index) + 16, body)
@@ -79,12 +79,12 @@ class Image:
 
 
 def frame_at(layout, journal, index):
-    """Where the frame of a batch begins."""
+    """The byte at which the frame of a batch begins."""
     return JOURNAL_AT + FRAME[layout] * (index % journal)
 
 
 def sender_of(line):
-    """The bidder of a bid or a waiver; none of what the auctioneer sends."""
+    """The bidder of a bid or a waiver. None, if the auctioneer sends the command."""
     kind, first, *_ = line.split()
     return first if kind in ("BID", "WAIVE") else ""
 
@@ -108,7 +108,7 @@ def body_of(layout, index, first, records):
 
 
 def children_of(node):
-    """Those of a package in their order, and the top nodes of none."""
+    """The children of a package in their order. For None, the top nodes."""
     return [place["name"] for place in RULES["nodes"] if place["parent"] == node]
 
 
@@ -121,10 +121,10 @@ def licences_of(node):
 
 
 class Auction:
-    """What is known of an auction whose commands are taken here, each of which is accepted."""
+    """The state of an auction whose commands are taken here, all of which are accepted."""
 
     def __init__(self, waivers=0):
-        """Each bidder has so many waivers."""
+        """Starts an auction whose bidders have so many waivers each."""
         self.count, self.round, self.stage, self.is_over, self.high, self.offered = 0, 1, 1, False, {}, {}
         self.last = dict.fromkeys(["", *BIDDERS], bytes(24))
         self.eligible = {bidder["name"]: bidder["units"] for bidder in RULES["bidders"]}
@@ -153,7 +153,7 @@ class Auction:
             self.offered[node] = amount, bidder
 
     def close(self):
-        """The bids of the open round are above those that stood. A round that has neither a bid nor a waiver is the last."""
+        """Closes the open round: its bids are above the standing ones. A round without a bid or waiver is the last."""
         self.is_over = not self.offered and not self.waived
         actives = {bidder: self.active(bidder) for bidder in BIDDERS}
         for bidder, active in actives.items():
@@ -163,7 +163,8 @@ class Auction:
         self.round += not self.is_over
 
     def settle(self, bidder, active):
-        """Who waived keeps its eligibility, and so does who is short and has a waiver left, which the close takes."""
+        """A bidder who waived keeps its eligibility. So does one who falls short and has a waiver left, which the
+        close takes."""
         wanted = RULES["stages"][self.stage - 1] * self.eligible[bidder]
         if bidder in self.waived or active * 100 >= wanted:
             return
@@ -173,7 +174,7 @@ class Auction:
             self.eligible[bidder] = active * 100 // RULES["stages"][self.stage - 1]
 
     def active(self, bidder):
-        """The units of the licences at or under the nodes that it bid on in the open round, or that it won."""
+        """The units of the licences at or under the nodes that a bidder bid on in the open round, or that it won."""
         nodes = {*self.nodes_of[bidder], *(node for node, winner in self.winners() if winner == bidder)}
         return sum({name: units for node in nodes for name, units in licences_of(node).items()}.values())
 

@@ -1,9 +1,9 @@
-/* Makes calls of the system fail, wait or be left out: those by which a program has a file, memory, threads, a port and
-   connections, and reads and writes them, at once, and those by which one thread wakes another. Loaded before the C library by
+/* Makes system calls fail, wait or be left out. Some of these calls give a program files, memory, threads, a port and
+   connections. Others read and write them, and others let one thread wake another. Loaded before the C library by
    examples/failing.py.
 
-   What becomes of which calls stands in the file in FAULTS, as `struct faults`. It is shared memory: whoever has the program
-   run may write there at any time, and reads there what was met. */
+   The file in FAULTS says what becomes of which calls, as `struct faults`. It is shared memory: the process that
+   runs the program may write to it at any time, and reads there how many calls were met. */
 #define _GNU_SOURCE
 #include "next-call.h"
 #include <errno.h>
@@ -25,34 +25,39 @@
 #include <time.h>
 #include <unistd.h>
 
-/* Rules, and the least descriptor beyond those of the program. */
+/* The number of rules, and the least descriptor beyond those of the program. */
 enum { RULES = 2, LEAST_DESCRIPTOR = 200 };
 
 /* Kinds of calls, a bit each. */
 enum { WRITE = 1, SYNC = 2, READ = 4, OPEN = 8, LOCK = 16, ADVICE = 32, PORT = 64, THREAD = 128, ACCEPT = 256, WAKE = 512, REQUEST = 1024, RECEIVE = 2048, SEND = 4096, PROMPT = 8192, TOP = 16384, NAME = 32768 };
 
-/* By whom: the thread whose first call of the file is a write of a batch commits, and any other one that isn't the first
-   thread of the program makes checkpoints. */
+/* Which thread makes a call. The first write or sync of a thread gives it a role: it is the committer if it writes a
+   batch, or else the checkpointer. The first thread of the program has no role. */
 enum { ANYBODY, COMMITTER, CHECKPOINTER };
 
-/* What becomes of a call: it is made; it fails, and nothing of it is made, or half of a write, or all; half of it is made, and
-   told so; it isn't made, and told as if it were; it waits until it is let go on, and is then made. */
+/* What becomes of a call:
+   - MADE: it is made.
+   - NOTHING, HALF, ALL: it fails, and nothing, half or all of its write is made.
+   - SHORT: half of it is made, and it reports half.
+   - LEFT_OUT: it isn't made, and reports that it was.
+   - HELD: it waits until it is released, and is then made. */
 enum { MADE, NOTHING, HALF, ALL, SHORT, LEFT_OUT, HELD };
 
-/* Of these calls by such a thread, from the first one on up to the last each so-manieth. A rule of no kinds does nothing. */
+/* The rule for these calls by such a thread: from the first one to the last, one in each `step`. A rule of no kinds
+   does nothing. */
 struct rule {
     int64_t kinds, thread, first, last, step, way, error;
-    /* How many such calls were begun, and how many of them were treated so. */
+    /* How many such calls were begun, and how many of them the rule met. */
     int64_t begun, met;
 };
 
 struct faults {
-    /* How long each sync takes beside its own time, in microseconds. */
+    /* How long each sync takes in addition to its own time, in microseconds. */
     int64_t delay;
     struct rule rules[RULES];
 };
 
-/* Where a journal begins in a file. */
+/* The byte of a file at which its journal begins. */
 enum { JOURNAL_AT = 53248 };
 
 static struct faults *faults;
@@ -91,7 +96,7 @@ static int is_of(int descriptor, mode_t type) {
     return !fstat(descriptor, &found) && (found.st_mode & S_IFMT) == type;
 }
 
-/* The rule that a call of this kind meets, if one does. */
+/* The rule that a call of this kind meets, if any. */
 static struct rule *rule_of(int kind) {
     struct rule *met = NULL;
     for (int at = 0; faults && at < RULES; at += 1) {
@@ -105,7 +110,7 @@ static struct rule *rule_of(int kind) {
     return met;
 }
 
-/* What becomes of a call of this kind, once it was held if it is to be. `errno` is set where it fails. */
+/* What becomes of a call of this kind. If a rule holds it, it waits first. If it fails, `errno` is set. */
 static int way_of(int kind) {
     struct rule *rule = rule_of(kind);
     if (!rule) return MADE;
@@ -125,7 +130,7 @@ static void take_role(int is_batch) {
     if (role == ANYBODY && syscall(SYS_gettid) != getpid()) role = is_batch ? COMMITTER : CHECKPOINTER;
 }
 
-/* A write of the file, of which as much is made as its way says. */
+/* A write to the file. `way` says how much of it is made. */
 #define WRITES_AT(name, offset) \
     ssize_t name(int descriptor, const void *bytes, size_t size, offset at) { \
         NEXT(name); \
@@ -153,7 +158,7 @@ WRITES_AT(pwrite64, off64_t)
 READS_AT(pread, off_t)
 READS_AT(pread64, off64_t)
 
-/* A sync of a file or a folder. It fails behind what it made, or without. */
+/* A sync of a file or a folder. If it fails, it may have synced all or nothing. */
 #define SYNCS(name) \
     int name(int descriptor) { \
         NEXT(name); \
@@ -169,7 +174,8 @@ READS_AT(pread64, off64_t)
 SYNCS(fsync)
 SYNCS(fdatasync)
 
-/* What is opened to see whether so many files may be open has a kind of its own, and a stream none. */
+/* Opening the top folder, which tests whether enough files may be open, has a kind of its own. Opening /dev/null,
+   for a stream, has none. */
 #define OPENS(name) \
     int name(const char *path, int flags, ...) { \
         NEXT(name); \
@@ -183,7 +189,7 @@ SYNCS(fdatasync)
 OPENS(open)
 OPENS(open64)
 
-/* By this one a program sees by which name it has a file open. */
+/* With this call a program finds the name by which it has a file open. */
 ssize_t readlink(const char *path, char *name, size_t size) {
     NEXT(readlink);
     return fails(way_of(NAME)) ? -1 : next(path, name, size);
@@ -194,7 +200,7 @@ int flock(int descriptor, int operation) {
     return fails(way_of(LOCK)) ? -1 : next(descriptor, operation);
 }
 
-/* It answers the number of an error. */
+/* It returns the number of an error. */
 #define ADVISES(name, length) \
     int name(int descriptor, length at, length size, int advice) { \
         NEXT(name); \
@@ -209,7 +215,7 @@ int socket(int family, int type, int protocol) {
     return fails(way_of(PORT)) ? -1 : next(family, type, protocol);
 }
 
-/* Where its address is left out, a port is had of every one of this machine. */
+/* If its address is left out, the port is bound for every address of this machine. */
 int bind(int descriptor, const struct sockaddr *address, socklen_t size) {
     NEXT(bind);
     int way = way_of(PORT);
@@ -241,14 +247,14 @@ ssize_t send(int descriptor, const void *bytes, size_t size, int flags) {
     return fails(way_of(SEND)) ? -1 : next(descriptor, bytes, size, flags);
 }
 
-/* By this one small answers leave at once, without waiting for what was sent before. */
+/* With this call small answers leave at once. They don't wait for the answers sent before. */
 int setsockopt(int descriptor, int level, int option, const void *value, socklen_t size) {
     NEXT(setsockopt);
     int is_prompt = level == IPPROTO_TCP && option == TCP_NODELAY && size >= sizeof(int) && *(const int *) value;
     return is_prompt && fails(way_of(PROMPT)) ? -1 : next(descriptor, level, option, value, size);
 }
 
-/* It answers the number of an error. */
+/* It returns the number of an error. */
 int pthread_create(pthread_t *thread, const pthread_attr_t *attributes, void *(*start)(void *), void *argument) {
     NEXT(pthread_create);
     return fails(way_of(THREAD)) ? errno : next(thread, attributes, start, argument);
@@ -264,7 +270,7 @@ void *realloc(void *block, size_t size) {
     return fails(way_of(REQUEST)) ? NULL : next(block, size);
 }
 
-/* By this one threads are woken, among others. */
+/* Among other things, this call wakes threads. */
 long syscall(long number, ...) {
     NEXT(syscall);
     long given[6];

@@ -1,11 +1,11 @@
-"""Calls of a program that fail, wait or are left out, by examples/fail-calls.c and memory that both have."""
+"""Makes calls of programs fail, wait or be left out, by examples/fail-calls.c and the memory that it shares."""
 import contextlib
 import errno
 import mmap
 import os
 import struct
 
-# Kinds of calls, a bit each; by whom; and what becomes of them: as in examples/fail-calls.c.
+# Kinds of calls, one bit each; which threads make them; and what becomes of them: as in examples/fail-calls.c.
 WRITE, SYNC, READ, OPEN, LOCK, ADVICE, PORT, THREAD, ACCEPT, WAKE, REQUEST, RECEIVE, SEND, PROMPT, TOP, NAME = (1 << place for place in range(16))
 ANYBODY, COMMITTER, CHECKPOINTER = range(3)
 MADE, NOTHING, HALF, ALL, SHORT, LEFT_OUT, HELD = range(7)
@@ -26,7 +26,7 @@ def words_of(kinds):
 
 
 class Faults:
-    """What becomes of the calls of programs that are run in this folder, one at a time."""
+    """Sets what becomes of the calls of programs that are run in this folder, one at a time."""
 
     def __init__(self, library, folder):
         self.library, self.file = library, folder / "faults"
@@ -40,12 +40,14 @@ class Faults:
         self.forget()
 
     def environment(self, shim=None, lie=""):
-        """That of a program whose calls may fail; where a shim is given they are written down, too, as they then went."""
+        """The environment of a program whose calls may fail. If a shim is given, it writes down the calls as they
+        then went."""
         environment = shim.environment(lie) if shim else {**os.environ, "LD_PRELOAD": ""}
         return {**environment, "LD_PRELOAD": f"{environment['LD_PRELOAD']} {self.library}".strip(), "FAULTS": str(self.file)}
 
     def forget(self, delay=0):
-        """Nothing fails or goes on any more; each sync takes so many microseconds beside its own time."""
+        """Clears all rules and releases no more calls. Each sync takes this many microseconds in addition to its own
+        time."""
         with contextlib.suppress(BlockingIOError):
             os.read(self.gate, MOST_RELEASED)
         DELAY.pack_into(self.shared, 0, delay)
@@ -57,7 +59,8 @@ class Faults:
         return DELAY.size + place * RULE.size
 
     def set(self, kinds, way, first=1, last=None, step=1, thread=ANYBODY, error=errno.EIO, place=0):
-        """From now on, of these calls the first one, or each so-manieth up to the last. The kinds come last: they begin the rule."""
+        """From now on, the first such call meets the rule, or each `step`-th one up to the last. The kinds are set
+        last, since they start the rule."""
         last = first if last is None else last
         RULE.pack_into(self.shared, self.at(place), 0, thread, first, last, step, way, error, 0, 0)
         struct.pack_into("=q", self.shared, self.at(place), kinds)
@@ -70,9 +73,9 @@ class Faults:
         return self.number(place, BEGUN)
 
     def met(self, place=0):
-        """How many of them were treated so."""
+        """How many of them the rule met."""
         return self.number(place, MET)
 
     def release(self):
-        """One more call that is held may go on."""
+        """Lets one more held call go on."""
         os.write(self.gate, b"x")

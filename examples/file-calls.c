@@ -1,15 +1,21 @@
-/* Writes a line for each call of the system by which a file, a folder or a stream is opened, locked, read, written, synced,
-   named or closed. Loaded before the C library by examples/calls.py. The lines go to the file in CALLS, each at once:
+/* Writes a line for each system call that opens, locks, reads, writes, syncs, names or closes a file, a folder or a
+   stream. Loaded before the C library by examples/calls.py. The lines go to the file in CALLS, each at once:
 
        THREAD CALL RESULT NUMBERS.. TEXT
 
-   The result is negative where the call failed. Of what is written the bytes stand there in hexadecimal, without the zeros
-   at the end. One call is made at a time, and its line written before the next is made: so the lines stand in the order of
-   the calls, of all threads.
+   The result is negative if the call failed. Written bytes are in hexadecimal, without the zeros at the end. One call
+   is made at a time, and its line is written before the next one is made. So the lines are in the order of the calls of
+   all threads.
 
-   A program that asks for less can be seen, too. By LIE some calls aren't made, nor written, and answered as if they were
-   made: each sync (sync), that of a folder (folder), that behind a write of more bytes than one (body) or of one (gate),
-   locks (lock), advice (advice). */
+   A program that asks for less can be seen, too. LIE names calls that are neither made nor written, and that report
+   success:
+
+   - sync: each sync of a file
+   - folder: the sync of a folder
+   - body: the sync after a write of more than one byte
+   - gate: the sync after a write of one byte
+   - lock: locks
+   - advice: the advice to drop pages from memory */
 #define _GNU_SOURCE
 #include "next-call.h"
 #include <errno.h>
@@ -26,7 +32,7 @@
 #include <sys/uio.h>
 #include <unistd.h>
 
-/* Beyond the descriptors of the program. */
+/* Beyond the descriptors that the program has. */
 enum { LEAST_DESCRIPTOR = 200 };
 
 static pthread_mutex_t one_at_a_time = PTHREAD_MUTEX_INITIALIZER;
@@ -57,7 +63,7 @@ static int is_folder(int descriptor) {
     return !fstat(descriptor, &found) && S_ISDIR(found.st_mode);
 }
 
-/* The bytes, in hexadecimal, without the zeros at their end. Nothing is allocated: a line is written in parts. */
+/* Writes the bytes in hexadecimal, without the zeros at their end. Nothing is allocated: a line is written in parts. */
 static void put_bytes(const unsigned char *bytes, size_t size) {
     static const char digits[] = "0123456789abcdef";
     char part[4096];
@@ -71,7 +77,7 @@ static void put_bytes(const unsigned char *bytes, size_t size) {
     put(part, used);
 }
 
-/* The line of a call: its result, some numbers, and a text or bytes behind them. */
+/* Writes the line of a call: its result, some numbers, and then a text or bytes. */
 static void tell(const char *call, long result, const char *numbers, const char *text, const void *bytes, size_t size) {
     char line[512];
     int failed = errno;
@@ -140,7 +146,7 @@ int flock(int descriptor, int operation) {
     MADE(int, next(descriptor, operation), "lock", NULL, NULL, 0, "%d %d", descriptor, operation);
 }
 
-/* It answers the number of an error. */
+/* It returns the number of an error. */
 #define ADVISES(name, length) \
     int name(int descriptor, length at, length size, int advice) { \
         NEXT(name); \
@@ -150,7 +156,7 @@ int flock(int descriptor, int operation) {
 ADVISES(posix_fadvise, off_t)
 ADVISES(posix_fadvise64, off64_t)
 
-/* Reading waits, so another call may be made meanwhile. A stream is read so. */
+/* A read can block, so another call may be made meanwhile. Streams are read by this call. */
 ssize_t read(int descriptor, void *bytes, size_t size) {
     NEXT(read);
     ssize_t had = next(descriptor, bytes, size);
@@ -232,7 +238,7 @@ int unlink(const char *name) {
     MADE(int, next(name), "unlink", name, NULL, 0, "-");
 }
 
-/* What no file of an auction is asked for. It is seen where it is asked. */
+/* Calls that the file of an auction shouldn't get. If a program makes one, it gets a line like the others. */
 #define OTHER(type, name, arguments, values, descriptor) \
     type name arguments { \
         NEXT(name); \

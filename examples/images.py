@@ -1,4 +1,4 @@
-"""Images that a crash may leave of a file: made of the calls of runs, and opened by the program."""
+"""Images of files that a crash may leave, made from the calls of runs and opened by the program."""
 import concurrent.futures
 import functools
 import random
@@ -8,12 +8,12 @@ from encoder import FIRST_FORMAT, JOURNAL_AT, NODES, OPEN, SLOTS, WAIVERS_FORMAT
 from outside import CELLS, FIRST_ROUND, LEAST, PAGE, PAGES, format_words, pages_of, rounds, run, text_of, with_waivers
 from wanted import Durable, last_number, numbers_in
 
-# A story is a file that is formatted, and then run and stopped so many times, with so many images of each; the next run goes on
-# from one of them. Of three stories the second goes on from a file of an earlier program, and the third is of an auction whose
-# bidders have waivers.
+# A story is a file that is formatted, and then run and stopped this many times. Each run has this many images, and the
+# next one goes on from one of them. Of every three stories, the second goes on from a file of an earlier program. The
+# third is of an auction whose bidders have waivers.
 RUNS, IMAGES_A_RUN, IMAGES_A_FORMAT = 4, 24, 4
 STORY = RUNS * IMAGES_A_RUN + IMAGES_A_FORMAT
-# So many batches wrap the journal, and take two checkpoints at least.
+# This many batches wrap the journal, and take at least two checkpoints.
 BATCHES = {PAGES: 14, CELLS: 34}
 # Batches of cells take one more cell from 30 commands on, and from 61 on.
 FEW, MANY = range(1, 5), (29, 30, 31, 60, 61, 64)
@@ -25,7 +25,7 @@ MOST_ROUNDS, WAIVERS = 180, 20
 
 @functools.lru_cache(maxsize=None)
 def prefixes(waivers=0):
-    """Many commands, all of which are accepted, and what is shown after each number of them."""
+    """Many commands, all of which are accepted, and the auction that is shown after each number of them."""
     commands = [*FIRST_ROUND, *rounds(MOST_ROUNDS, waivers)]
     questions = ["SHOW", *(f"NODE {name}" for name in NODES)]
     lines = [*questions, *(line for command in commands for line in (command, *questions))]
@@ -35,7 +35,7 @@ def prefixes(waivers=0):
 
 
 def sectors(at, size):
-    """The parts of a range that lie in sectors of their own."""
+    """The first byte and the end of each part of a range. Each part is in one sector."""
     cuts = [0, *range(SECTOR - at % SECTOR, size, SECTOR), size]
     return list(zip(cuts, cuts[1:]))
 
@@ -49,7 +49,8 @@ def lost(dice, at, old, new):
 
 
 def torn_at_a_byte(dice, at, old, new):
-    """Half of the time where old and new bytes differ: zeros over zeros show nothing."""
+    """Half of the time the write is torn at a byte that differs from the old one, because zeros over zeros show
+    nothing."""
     places = [place for place in range(len(new)) if old[place] != new[place]] if dice.random() < 0.5 else []
     place = dice.choice(places) if places else dice.randrange(len(new) + 1)
     if dice.random() < 0.5:
@@ -91,14 +92,15 @@ FATES = (kept, lost, torn_at_a_byte, torn_at_a_byte, torn_at_sectors, filled, fi
 
 
 class Traced:
-    """The calls of one job, what its file held before, and how many commands that keeps."""
+    """The calls of one job, the bytes that its file held before, and how many commands these keep."""
 
     def __init__(self, calls, before, count):
         self.calls, self.before, self.count = calls, before, count
         self.writes = [place for place, call in enumerate(calls) if call[0] == "write"]
 
     def image(self, dice):
-        """What a crash may leave behind a random call, a write mostly: its bytes, the calls up to there, and how it came to be."""
+        """An image that a crash may leave after a random call, most often a write: its bytes, the calls up to there,
+        and how it came about."""
         end = 1 + (dice.choice(self.writes) if dice.random() < 0.75 else dice.randrange(self.writes[0], len(self.calls)))
         durable = Durable(self.before)
         for call in self.calls[:end]:
@@ -111,7 +113,8 @@ class Traced:
         return bytes(image), self.calls[:end], "; ".join(came)
 
     def counts(self, calls):
-        """How many commands may be kept: those of whole batches, from what was answered on, up to the last whose gate was written."""
+        """How many commands may be kept: those of whole batches, at least the answered ones, at most up to the last
+        batch whose gate was written."""
         answered, last, ends = self.count, None, [self.count]
         for call in calls:
             if call[0] == "put":
@@ -123,12 +126,13 @@ class Traced:
         return [count for count in ends if count >= answered] or [answered]
 
     def shown(self, calls, texts):
-        """What may be shown after these calls, by the texts that are shown after each number of commands."""
+        """What may be shown after these calls. `texts` has the text that is shown after each number of commands."""
         return {texts[count]: count for count in self.counts(calls)}
 
 
 class TracedFormat(Traced):
-    """Of a file that is being formatted: it isn't one yet, or it is new, and that from the answer on."""
+    """The calls of a format. Until it is answered, the file is unformatted or has the new auction. From then on it
+    has the new auction."""
 
     def shown(self, calls, texts):
         is_answered = any(call[0] == "put" for call in calls)
@@ -145,12 +149,12 @@ class Crashes:
         self.begin(waivers)
 
     def begin(self, waivers):
-        """An auction whose bidders have so many."""
+        """Starts an auction whose bidders have so many waivers."""
         self.waivers = waivers
         self.commands, self.texts = prefixes(waivers)
 
     def story(self, number):
-        """A file is formatted, and then run again and again, each time from an image of before, until something is wrong."""
+        """Formats a file, and runs it again and again, each time from an earlier image, until something is wrong."""
         dice, count = random.Random(f"{self.seed} {self.layout} {number}"), 0
         self.begin(WAIVERS if number % 3 == 2 else 0)
         is_held = self.holds(self.format(dice), IMAGES_A_FORMAT, dice, f"story {number}, format") is not None
@@ -165,7 +169,7 @@ class Crashes:
             self.picture.replace(self.file)
 
     def holds(self, traced, count, dice, what):
-        """How many commands the last one keeps of so many images; none where something is wrong with one."""
+        """How many commands the last of so many images keeps, or None if something is wrong with one of them."""
         kept = traced.count
         if not traced.writes:
             self.faults.append(f"{self.name(what)}: nothing was written")
@@ -194,7 +198,7 @@ class Crashes:
         return f"layout {self.layout}, seed {self.seed}, {what}"
 
     def format(self, dice):
-        """That of a file which held something else."""
+        """Formats a file that held something else."""
         size = pages_of(LEAST[self.layout], self.layout) * PAGE
         before = dice.choice([bytes(size), OPEN * size, bytes_of(dice, size)])
         self.file.write_bytes(before)
@@ -207,7 +211,7 @@ class Crashes:
         return [call for _, call in self.shim.calls(self.file)]
 
     def run(self, dice, first):
-        """One that goes on from so many commands, and has to answer each by its number."""
+        """Runs the file from so many commands on. Each command has to be answered by its number."""
         before, lines, count = self.file.read_bytes(), [], first
         for _ in range(BATCHES[self.layout]):
             size = dice.choice(FEW if dice.random() < 0.9 else MANY)
@@ -226,13 +230,13 @@ class Crashes:
 
 
 def is_long(calls, journal):
-    """Whether more batches than there are frames are made durable, and two checkpoints."""
+    """Whether the run makes more durable batches than there are frames, and two checkpoints."""
     opened = [call[2] for call in calls if call[0] == "write" and call[3] == OPEN]
     return sum(at in SLOTS for at in opened) >= 2 and sum(at not in SLOTS for at in opened) > journal
 
 
 class Told:
-    """What came of stories: how many images were made of the calls of how many jobs, and what is wrong."""
+    """The results of stories: how many images were made from the calls of how many jobs, and the faults found."""
 
     def __init__(self, made):
         self.images, self.jobs = sum(crashes.images for crashes in made), sum(crashes.runs for crashes in made)
@@ -240,7 +244,7 @@ class Told:
 
 
 def tell(library, folder, layout, seed, numbers, jobs=2, lie=""):
-    """So many stories at a time, each in a folder of its own."""
+    """Runs these stories, `jobs` at a time. Those that run at the same time have folders of their own."""
     for waivers in (0, WAIVERS):
         prefixes(waivers)
 

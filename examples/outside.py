@@ -1,4 +1,4 @@
-"""What the checks from outside share: how a program is run, served and compared."""
+"""Shared by the checks from outside: how a program is run, served and compared."""
 import json
 import os
 import pathlib
@@ -16,7 +16,7 @@ import traceback
 HERE = pathlib.Path(__file__).resolve().parent
 ADDRESS = "127.0.0.1"
 SECONDS = 20
-# Where ports that may be free begin, and those that the system gives to connections by itself.
+# The least port that may be free, and the least port that the system gives to connections by itself.
 LEAST_PORT, LEAST_GIVEN = 10_000, 32_768
 PAGE = 4096
 NOBODY = 65534
@@ -46,7 +46,7 @@ def leave_out(what):
 
 
 class Ran:
-    """What a program answered and said, its status, and how many seconds it took."""
+    """What a program answered and wrote to standard error, its status, and how many seconds it took."""
 
     def __init__(self, output, errors, status, seconds):
         self.output, self.errors, self.status, self.seconds = output, errors, status, seconds
@@ -56,7 +56,8 @@ class Ran:
 
 
 def run(*words, text=b"", input=None, output=subprocess.PIPE, errors=subprocess.PIPE, before=None, seconds=SECONDS, **more):
-    """With this text, or on an input that is open here. One that takes too long is killed; its status is then None."""
+    """Runs the program with this text, or on an input that is open here. If it takes too long, it is killed, and its
+    status is None."""
     began = time.monotonic()
     process = subprocess.Popen(
         ["hpb", *map(str, words)],
@@ -87,18 +88,19 @@ LEAST = {PAGES: 4, CELLS: 16}
 
 
 def format_words(file, journal=4, layout=PAGES):
-    """The first layout needs no word."""
+    """The words for format. The first layout is the default and needs no word."""
     chosen = [] if layout == PAGES else ["--layout", layout]
     return ["format", "--file", file, "--journal", journal, *chosen]
 
 
 def pages_of(journal, layout=PAGES):
-    """How many a file has with so many frames: a page for each, or three for each eight."""
+    """How many pages a file with this many frames has: one for each frame of pages, or three for eight frames of
+    cells."""
     return 13 + (journal if layout == PAGES else journal * 3 // 8)
 
 
 def new_file(folder, name="F", journal=4, definition=DEFINITION, lines=b"", layout=PAGES, batch=64):
-    """A file that keeps an auction, which was run with these lines."""
+    """A file that keeps an auction after a run with these lines."""
     file = folder / name
     made = run(*format_words(file, journal, layout), text=definition)
     compare(f"format of {name}", (made.output, made.errors, made.status), (f"FORMATTED {pages_of(journal, layout)}\n", "", 0))
@@ -108,14 +110,16 @@ def new_file(folder, name="F", journal=4, definition=DEFINITION, lines=b"", layo
     return file
 
 
-# The first round, and on which nodes each bidder may bid in each later one, by its units; and how many licences each of them has.
+# The first round; the nodes on which each bidder may bid in each later one, by its units; and how many licences each
+# package has.
 FIRST_ROUND = ["BID x 1 a 100", "BID y 1 b 150", "BID z 1 all 500", "BID w 1 c 100", "CLOSE 1"]
 BIDS = {"x": "a", "y": "b", "z": "all east a b c", "w": "c d"}
 LICENCES = {"all": 3, "east": 2}
 
 
 def amounts(count):
-    """What a licence is worth in each of so many rounds, at most 180: a thousand more each time, and by a tenth more at least."""
+    """The price of a licence in each of so many rounds, at most 180. It rises by at least a thousand and at least a
+    tenth each time."""
     amount = 0
     for _ in range(count):
         amount = max(amount + 1000, -(-amount * 11 // 100) * 10)
@@ -123,8 +127,8 @@ def amounts(count):
 
 
 def rounds(count, waivers=0):
-    """The ten commands of each of so many rounds behind the first, all of which are accepted. Where bidders have waivers, each waives
-    as often: one more command in each of the first rounds."""
+    """The ten commands of each of so many rounds after the first, all of which are accepted. If bidders have
+    waivers, each uses all of its own: one more command in each of the first rounds."""
     tickets = dict.fromkeys(BIDS, 1)
     lines = []
     for number, amount in enumerate(amounts(count), 1):
@@ -141,7 +145,7 @@ def rounds(count, waivers=0):
 
 
 def with_waivers(number):
-    """The definition where each bidder has so many; without the field where it has none."""
+    """The definition with so many waivers for each bidder. With none, it has no such field."""
     field = b'"waivers":%d,' % number if number else b""
     return DEFINITION.replace(b'"nodes"', field + b'"nodes"', 1)
 
@@ -151,7 +155,7 @@ def text_of(lines):
 
 
 def first_shown(file):
-    """What check shows first."""
+    """The first line that check shows."""
     return run("check", "--file", file).output.split("\n")[0]
 
 
@@ -162,7 +166,7 @@ def count_kept(file):
 
 
 def free_port():
-    """One below those that the system gives to connections."""
+    """A free port below those that the system gives to connections."""
     while True:
         with socket.socket() as probe:
             try:
@@ -173,7 +177,7 @@ def free_port():
 
 
 def line_from(stream, seconds=SECONDS):
-    """The next line of a pipe, or as much as comes of it in time. It leaves the rest."""
+    """The next line of a pipe, or as much of it as comes in time. The rest stays in the pipe."""
     line, end = b"", time.monotonic() + seconds
     while not line.endswith(b"\n") and select.select([stream], [], [], max(0, end - time.monotonic()))[0]:
         part = os.read(stream.fileno(), 1)
@@ -194,7 +198,7 @@ class Session:
         self.socket.sendall(data)
 
     def line(self):
-        """The next line; an empty text where the connection has ended."""
+        """The next line, or an empty text if the connection has ended."""
         while b"\n" not in self.received:
             part = self.socket.recv(65536)
             if not part:
@@ -219,14 +223,14 @@ def serve_words(file, port, sessions=1):
 
 
 PLACE = re.compile(r"hpb: (\d+) of (\d+) places taken\n")
-# Who has a place, and how its session ended, behind that.
+# The line that says which address holds a place, and the one that says how its session ended.
 HOLDER = re.compile(r"hpb: place (\d+) of (\d+) is held by ([0-9.:]+)\n")
 LEFT = re.compile(r"hpb: place (\d+) of (\d+) \(([0-9.:]+)\) has ended: [^\n]+\n")
 
 
 def without_places(said, sessions, tells_ends=True):
-    """What is said but for places: each is told as it is taken, one after another, and then who has it and how its session ended, if that
-    can be told."""
+    """Standard error without the lines about places. A line reports each place when it is taken, one after another.
+    Then come its holder and, if memory allows, how its session ended."""
     taken = PLACE.findall(said)
     compare("which places are told", taken, [(str(place), str(sessions)) for place in range(1, len(taken) + 1)])
     holders, left = HOLDER.findall(said), LEFT.findall(said)
@@ -236,7 +240,7 @@ def without_places(said, sessions, tells_ends=True):
 
 
 def wait_for_words(server, words, seconds=SECONDS):
-    """What a server says until these words come, and whether they did."""
+    """What a server writes to standard error until these words come, and whether they came."""
     said, end = b"", time.monotonic() + seconds
     stream = server.process.stderr.fileno()
     while words.encode() not in said and select.select([stream], [], [], max(0, end - time.monotonic()))[0]:
@@ -248,7 +252,7 @@ def wait_for_words(server, words, seconds=SECONDS):
 
 
 class Server:
-    """The program, serving a file to so many sessions. It is killed where a check stops."""
+    """The program, serving a file to so many sessions. If a check stops early, the program is killed."""
 
     all = []
 
@@ -265,7 +269,8 @@ class Server:
         return Session(self.port)
 
     def end(self, seconds=SECONDS, before=""):
-        """What it still writes, its status, and what it says, with what was read of that before."""
+        """Waits for the end: the rest of its output, its status, and its standard error. `before` is the part of
+        that which was read before."""
         try:
             written, said = self.process.communicate(timeout=seconds)
         except subprocess.TimeoutExpired:
@@ -278,7 +283,7 @@ class Server:
         return pathlib.Path(f"/proc/{self.process.pid}/status").read_text()
 
     def waits(self):
-        """Returns once all its threads sleep: one of them then waits for the next connection."""
+        """Returns once all its threads sleep. One of them then waits for the next connection."""
         tasks = pathlib.Path(f"/proc/{self.process.pid}/task")
         calm, end = 0, time.monotonic() + SECONDS
         while calm < 20 and time.monotonic() < end:
@@ -292,15 +297,15 @@ class Server:
 
 
 def great_definition():
-    """One with 64 licences and 64 bidders, each of whom may bid on all."""
+    """A definition with 64 licences and 64 bidders, each of whom may bid on all."""
     nodes = [{"name": f"l{place}", "parent": None, "units": 1, "opening": 100} for place in range(64)]
     bidders = [{"name": f"b{place}", "units": 64} for place in range(64)]
     return json.dumps({"step": 10, "percent": 10, "stages": [80], "nodes": nodes, "bidders": bidders}, separators=(",", ":")).encode() + b"\n"
 
 
 def main(checks, what, program=None):
-    """Runs this program, or else that which is named on the command line, through these checks, each of which has a folder of its
-    own."""
+    """Runs this program, or else the one named on the command line, through these checks. Each check has a folder of
+    its own."""
     global PROGRAM
     if program is None and len(sys.argv) != 2:
         sys.exit(f"usage: {sys.argv[0]} PROGRAM")

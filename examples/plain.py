@@ -1,7 +1,8 @@
-"""The auction by docs/RULES.md alone: what each command is answered, and what stands after it. It shares nothing with the program.
+"""The auction by docs/RULES.md alone: the answer to each command, and the state after it. It shares nothing with the
+program.
 
-A command is ("bid", bidder, ticket, node, amount), ("waive", bidder, ticket), ("close", ticket) or ("stage", ticket), by places from 0.
-An answer is ("ok", number) or ("err", number of the refusal).
+A command is ("bid", bidder, ticket, node, amount), ("waive", bidder, ticket), ("close", ticket) or ("stage",
+ticket), by places from 0. An answer is ("ok", number) or ("err", number of the refusal).
 """
 from typing import NamedTuple, Optional
 
@@ -44,7 +45,7 @@ class Auction:
         self.definition = definition
         self.round, self.stage, self.is_over, self.count = 1, 1, False, 0
         self.high, self.incoming = {}, {}
-        # By sender its last command that was accepted, with its ticket and its number.
+        # For each sender its last accepted command, with its ticket and its number.
         self.last = {}
         self.eligibility = list(definition.bidders)
         self.bid_on = [frozenset()] * len(definition.bidders)
@@ -61,10 +62,10 @@ class Auction:
             setattr(other, name, list(getattr(self, name)))
         return other
 
-    # What a command is answered.
+    # The answers to commands.
 
     def answer(self, command):
-        """The answer. Where a command is newly accepted, it counts."""
+        """The answer to a command. A newly accepted command counts."""
         refusal = self.refusal(command)
         if refusal:
             return "err", refusal
@@ -78,7 +79,7 @@ class Auction:
         return "ok", self.count
 
     def refusal(self, command):
-        """The first that holds, and None for a repeat and for what is accepted."""
+        """The first refusal that holds. None, if the command is a repeat or is accepted."""
         kind, sender, ticket = command[0], sender_of(command), ticket_of(command)
         if sender != AUCTIONEER and sender >= len(self.definition.bidders):
             return 11
@@ -120,7 +121,7 @@ class Auction:
             return 25
         return None
 
-    # What an accepted command does.
+    # The effects of accepted commands.
 
     def take_bid(self, bidder, ticket, node, amount):
         self.bid_on[bidder] |= {node}
@@ -160,7 +161,7 @@ class Auction:
     # What follows from the bids.
 
     def activity(self, bidder, more=()):
-        """Units of the licences at or under the nodes that it bid on in the open round, or that it won."""
+        """The units of the licences at or under the nodes that a bidder bid on in the open round, or that it won."""
         nodes = [*self.bid_on[bidder], *more, *(node for node in self.winners if self.high[node][1] == bidder)]
         licences = frozenset().union(*(self.definition.licences[node] for node in nodes))
         return sum(self.definition.nodes[licence].units for licence in licences)
@@ -191,7 +192,7 @@ class Auction:
             self.find_winners(child, bids, inside)
 
     def pass_down(self, node, down, bids, inside):
-        """Each child has the same, but for a dollar more of the first ones."""
+        """Each child of a package gets the same amount, but the first ones get a dollar more."""
         children = self.definition.children[node]
         if children:
             share, more = divmod(down[node] + max(0, bids[node] - inside[node]), len(children))

@@ -10,7 +10,7 @@ SIDE_BY_SIDE = 4
 
 
 class Ran:
-    """What a program answered and said, its status, and how many requests it made."""
+    """What a program answered and wrote to standard error, its status, and how many requests it made."""
 
     def __init__(self, output, errors, status, requests):
         self.output, self.errors, self.status, self.requests = output, errors, status, requests
@@ -25,12 +25,12 @@ class Refusals:
         subprocess.run([compiler, "-O1", "-shared", "-fPIC", "-o", self.library, HERE / "refuse-memory.c", "-ldl"], check=True)
 
     def environment(self, folder, number, is_marked=False):
-        """Where this request is refused, and how many were made is written in this folder."""
+        """The environment in which this request is refused. The number of requests is written in this folder."""
         marked = {"MARKED": "1"} if is_marked else {}
         return os.environ | marked | {"LD_PRELOAD": str(self.library), "REFUSED": str(number), "REQUESTS": str(folder / "requests")}
 
     def run(self, words, folder, number=0, text=b"", is_marked=False):
-        """Runs the words in this folder with this request refused, or with none by 0."""
+        """Runs the words in this folder with this request refused, or none if the number is 0."""
         ran = subprocess.run(
             list(map(str, words)),
             input=text,
@@ -43,12 +43,12 @@ class Refusals:
 
 
 def made_in(folder):
-    """How many requests were made by the program that ended last in this folder."""
+    """How many requests the program that ended last in this folder made."""
     return int((folder / "requests").read_text())
 
 
 def each(folder, numbers, check):
-    """Calls a check with each number, and a folder of its own; some of them at the same time."""
+    """Calls a check with each number and a folder of its own, some of them at the same time."""
 
     def in_folder(number):
         room = folder / str(number)

@@ -1,7 +1,9 @@
-"""What crates/hpb_simulation tells of its seeds, held against the rules and against what its clients were answered.
+"""Holds the output of crates/hpb_simulation on its seeds against the rules and against the answers that its clients
+got.
 
-Each line is judged by what the lines before it lead to: which letters are gathered, what becomes of them, each answer, and after
-each opening the auction, which is that of all that was acknowledged, or of those and the batch that was on its way.
+Each line is judged by the lines before it: which letters are gathered, what becomes of them, and each answer. After
+each opening the auction is judged, too. It has to be the auction of all acknowledged commands, or of these and the
+batch that was on its way.
 """
 import functools
 import itertools
@@ -11,7 +13,7 @@ from collections import Counter, deque
 
 from plain import Auction, Definition, Node
 
-# The definition of the devices in crates/hpb_engine_rows.
+# The definition on the devices in crates/hpb_engine_rows.
 NODES = [Node(None), Node(0), Node(1, 10, 100), Node(1, 10, 100), Node(0, 20, 100), Node(None, 5, 100)]
 BIDDERS = [10, 10, 40, 25]
 STEP, PERCENT, STAGES = 10, 10, [80, 95]
@@ -20,11 +22,12 @@ SEEDS_AT_A_TIME = 50
 
 
 class Wrong(Exception):
-    """What is told isn't what the rules and the lines before it lead to."""
+    """A line doesn't follow from the rules and the lines before it."""
 
 
 class Flight:
-    """Letters on their way, their answers, and the auction behind them. It lands at the fourth turn, and may do so at the third."""
+    """Letters on their way, their answers, and the auction after them. A flight lands at the fourth turn at the
+    latest, and may do so at the third."""
 
     def __init__(self, letters, answers, auction):
         self.letters, self.answers, self.auction, self.turns = letters, answers, auction, 0
@@ -34,13 +37,13 @@ class Flight:
 
 
 class Seed:
-    """One seed as it is told, line by line."""
+    """One seed, read line by line."""
 
     def __init__(self, words):
         number, self.layout, self.frames, waivers = map(int, words)
         self.number, self.counts, self.has_ended = number, Counter(seeds=1), False
         self.auction = Auction(Definition(STEP, PERCENT, STAGES, waivers, NODES, BIDDERS))
-        # By seat what it sent that isn't answered, and how much of that it has posted since the opening.
+        # For each seat, what it sent that isn't answered yet, and how much of that it has posted since the opening.
         self.unanswered, self.posted = {}, Counter()
         self.flight, self.is_stopped = None, False
         self.begin()
@@ -70,12 +73,12 @@ class Seed:
         self.is_stopped = True
 
     def take_open(self, words):
-        """An opening failed, and the next one is of the same device."""
+        """An opening failed, and the next one has the same device."""
         self.want(words, ["device"])
         self.counts["faults of openings"] += 1
 
     def take_auction(self, lines):
-        """What is found on the device."""
+        """Takes the auction that the opening found on the device."""
         if self.counts["openings"] and not self.is_stopped:
             raise Wrong("an opening without a stop")
         self.counts["openings"] += 1
@@ -196,7 +199,7 @@ def command_of(words):
 
 
 def answered(auction, seat, words):
-    """The words of the answer that an auction gives, and takes the command in."""
+    """The words of the answer that an auction gives. The auction takes the command in."""
     at = auction.count
     word, number = auction.answer(command_of(words))
     return [str(seat), *words, str(at), word, str(number)]
@@ -211,7 +214,7 @@ def yes(flag):
 
 
 def shown(auction):
-    """The lines of all that is to be seen of an auction."""
+    """The lines that show everything of an auction."""
     number = auction.last.get(-1, (0, None, 0))[2]
     lines = [f"state {auction.round} {auction.stage} {yes(auction.is_over)} {auction.count} {auction.revenue} {number}"]
     for node in range(len(NODES)):
@@ -233,7 +236,7 @@ LINES_OF_AN_AUCTION = 1 + len(NODES) + len(BIDDERS)
 
 
 class Judge:
-    """All seeds of a telling: what was counted, and what is wrong, by its seed."""
+    """Judges all seeds of an output: how much it counted, and what it found wrong with each seed."""
 
     def __init__(self):
         self.counts, self.wrong, self.seed = Counter(), [], None
@@ -271,14 +274,14 @@ class Judge:
 
 
 def tell(program, first, count):
-    """The lines that a program tells of so many seeds."""
+    """The lines that a program writes about so many seeds."""
     told = subprocess.run([program, str(first), str(count)], stdout=subprocess.PIPE, stderr=subprocess.PIPE, text=True)
     lines = told.stdout.splitlines()
     return lines if told.returncode == 0 else [*lines, f"ended {told.returncode} {told.stderr.strip()}"]
 
 
 def judged(lines):
-    """What was counted, and what is wrong."""
+    """The counts, and the faults that were found."""
     judge = Judge()
     judge.judge(lines)
     return judge.counts, judge.wrong
@@ -289,7 +292,7 @@ def try_part(program, part):
 
 
 def try_seeds(program, first, count, jobs):
-    """The same of so many seeds, some at a time."""
+    """The counts and faults of so many seeds, some of them at a time."""
     parts = [(seed, min(SEEDS_AT_A_TIME, first + count - seed)) for seed in range(first, first + count, SEEDS_AT_A_TIME)]
     counts, wrong = Counter(), []
     with multiprocessing.Pool(jobs) as pool:

@@ -1,4 +1,5 @@
-"""Auctions of any size, of which all is known by hand: in each round every bidder bids on every node, as much for each licence."""
+"""Auctions of any size with results known by hand: in each round every bidder bids on every node, as much for each
+licence."""
 import itertools
 import json
 
@@ -7,30 +8,31 @@ LEVELS = 8
 
 
 def flat(count):
-    """So many licences and no package. A tree has the place of its parent for each node."""
+    """So many licences and no package. A tree is a list with the place of each node's parent."""
     return [None] * count
 
 
 def package(count):
-    """A package of all the other nodes."""
+    """A package of all other nodes."""
     return [None] + [0] * (count - 1)
 
 
 def halves(count):
-    """Packages of two nodes each; where the number is even one licence stands beside them."""
+    """Packages of two nodes each. If the number is even, one licence stands beside them."""
     odd = count - 1 + count % 2
     return [(place - 1) // 2 if place else None for place in range(odd)] + flat(count - odd)
 
 
 def deep(count):
-    """Packages on all levels but the last, each in the one before it and with a licence besides; all other licences are in the last."""
+    """A package on each level but the last, each in the one before it and with a licence beside it. All other
+    licences are in the last package."""
     last = LEVELS - 2
     packages, licences = [None, *range(last)], [*range(last)]
     return packages + licences + [last] * (count - len(packages) - len(licences))
 
 
 def name(place, letters):
-    """One of so many letters, or with fewer where it can be; names differ in their last two."""
+    """A name of so many letters, or of fewer if the numbers allow it. Names differ in their last two letters."""
     first, last = divmod(place, len(LETTERS))
     return ((LETTERS[first] if first else "") + LETTERS[last]).rjust(letters, LETTERS[0])
 
@@ -40,14 +42,14 @@ def up_to(step, number):
 
 
 class Sized:
-    """The bids of a round are the least ones on the licences, and the sum of these on a package: so the parts win. The first bidder
-    has each high bid, and nobody's activity is ever short."""
+    """The bids of a round are the least ones on the licences, and on a package their sum, so the parts win. The
+    first bidder has each high bid, and nobody's activity ever falls short."""
 
     def __init__(self, tree, bidders, letters=0, step=1, percent=1, opening=100, units=1, stages=(50,), waivers=0):
         self.tree, self.step, self.percent, self.opening, self.units = tree, step, percent, opening, units
         self.stages, self.waivers = stages, waivers
         self.nodes, self.bidders = ([name(place, letters) for place in range(count)] for count in (len(tree), bidders))
-        # How many licences lie at or under each node, and in all.
+        # How many licences each node has at or under it, and how many there are in all.
         self.licences = [0] * len(tree)
         for place in reversed(range(len(tree))):
             self.licences[place] = self.licences[place] or 1
@@ -67,7 +69,7 @@ class Sized:
         return json.dumps(rules, separators=(",", ":")).encode() + b"\n"
 
     def amount(self, number):
-        """What is bid in this round for a licence."""
+        """The amount of a bid in this round for each licence."""
         while len(self.amounts) < number:
             self.amounts.append(self.minimum(self.amounts[-1], 1))
         return self.amounts[number - 1]
@@ -76,7 +78,7 @@ class Sized:
         return max(self.opening * licences, up_to(self.step, price + up_to(100, price * self.percent) // 100))
 
     def commands(self):
-        """All, without end, each of which is accepted as long as no bid is too high."""
+        """All commands, without end. Each is accepted as long as no bid is too high."""
         for number in itertools.count(1):
             amount = self.amount(number)
             for place, (node, licences) in enumerate(zip(self.nodes, self.licences), 1):
@@ -85,12 +87,12 @@ class Sized:
             yield f"CLOSE {number}"
 
     def lines(self, first, end):
-        """Those from this place on and up to that one, the first of which is 0."""
+        """The commands from place `first` up to, but not including, `end`. The first command of all is at 0."""
         self.made += itertools.islice(self.more, max(0, end - len(self.made)))
         return self.made[first:end]
 
     def shown(self, count):
-        """What check shows after so many commands."""
+        """The lines that check shows after so many commands."""
         closed = count // self.round
         amount = self.amount(closed) if closed else 0
         lines = [f"ROUND {closed + 1} STAGE 1 OPEN REVENUE {amount * self.all} COUNT {count}"]

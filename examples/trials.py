@@ -1,4 +1,5 @@
-"""A file that is served to bidders while calls of the program fail, and what has to be so of it then and afterwards."""
+"""A file that is served to bidders while calls of the program fail, and the checks of what happens then and
+afterwards."""
 import pathlib
 import resource
 import time
@@ -11,26 +12,26 @@ from outside import LEAST, PAGE, SECONDS, Server, Session
 from outside import compare, count_kept, format_words, free_port, run, serve_words, text_of, without_places
 from wanted import Durable, broken_promises, last_number
 
-# How long an answer or an end may take.
+# How many seconds an answer or an end may take.
 BOUND = 10
-# What each sync takes, in microseconds: so that bids gather meanwhile.
+# How long each sync takes, in microseconds. Bids gather meanwhile.
 DELAY = 300
 DISK = "hpb: 91 device: the disk of "
 
-# What is said first, when the call fails.
+# The program writes this first when the call fails.
 DISK_FAILS = "hpb: 91 device: a call of the disk of "
-# Before it is served a file keeps these, in a batch and a checkpoint each.
+# Before it is served, a file keeps these, each in a batch and a checkpoint of its own.
 FIRST = ["BID b63 1 l0 100", "BID b62 1 l0 100"]
 QUESTIONS = ["CLOSE 1", "SHOW", *(f"NODE l{place}" for place in range(LICENCES))]
-# No more may be written behind this, where the file is limited.
+# If the file is limited, nothing may be written after this byte.
 LIMIT = 3 * PAGE
-# What calls of the device are for.
+# What the calls of the device are for.
 COMMIT = ("batch", "sync behind batch", "frame opened", "sync behind frame opened")
 CHECKPOINT = {
     *("slot closed", "sync behind slot closed", "page 0", "page 1", "page 2", "page 3", "sync behind page 3"),
     *("slot opened", "sync behind slot opened", "frame closed", "sync behind frame closed"),
 }
-# So often all threads have to be seen asleep.
+# How many times in a row all threads have to be seen asleep.
 CALM = 3
 
 tools, templates = {}, {}
@@ -45,7 +46,7 @@ def prepare(folder):
 
 
 def template(folder, layout):
-    """The bytes of a file in which a batch and a checkpoint were made of each command so far."""
+    """The bytes of a file in which each command so far was given a batch and a checkpoint."""
     if layout not in templates:
         file = folder / "template"
         run(*format_words(file, LEAST[layout], layout), text=DEFINITION)
@@ -56,10 +57,10 @@ def template(folder, layout):
 
 
 class Trial:
-    """A file that is served to bidders while calls fail, and what has to be so of it afterwards."""
+    """A file that is served to bidders while calls fail, and the checks that follow."""
 
     def __init__(self, what, folder, layout, is_traced=False, bound=BOUND, is_harmless=False):
-        """Where it is traced its calls are held against what is promised, too."""
+        """If the trial is traced, its calls are held against the promises, too."""
         self.what, self.folder, self.layout, self.bound = f"layout {layout}, {what}", folder, layout, bound
         self.is_harmless, self.is_limited, self.stage = is_harmless, False, None
         self.file = folder / "F"
@@ -72,7 +73,7 @@ class Trial:
         compare(f"{self.what}: {what}", found, wanted)
 
     def serve(self, sessions, lie=""):
-        """Begins to serve it, before any call is to fail."""
+        """Begins to serve the file. No call fails until one is set to."""
         self.faults.forget(DELAY)
         return self.start(sessions, env=self.faults.environment(self.shim, lie))
 
@@ -82,14 +83,14 @@ class Trial:
         return self
 
     def refuse(self, kinds, number=1, way=NOTHING, **more):
-        """Before it is served one of these calls, or more of them, is to fail."""
+        """Sets one of these calls, or more of them, to fail before the file is served."""
         counts["faults"] += 1
         self.faults.forget(DELAY)
         self.faults.set(kinds, way, number, **more)
         return self
 
     def served(self, sessions=1, **more):
-        """How it went where it ends without a client, and by which port."""
+        """Serves without a client: the port, and how the program ended."""
         counts["programs"] += 1
         port = free_port()
         found = run(*serve_words(self.file, port, sessions), seconds=self.bound, **{"env": self.faults.environment(), **more})
@@ -101,19 +102,19 @@ class Trial:
         return self
 
     def attend(self, count=None):
-        """Lets the last so many bid, or all."""
+        """Lets the last so many bidders bid, or all."""
         attend(self.bidders[-count:] if count else self.bidders, self.bound)
         return self
 
     def limit(self, after):
-        """Lets all bid. After so many answers nothing may be written any more that lies behind the first pages."""
+        """Lets all bid. After so many answers, nothing after the first pages may be written any more."""
         self.is_limited = True
         process = self.server.process.pid
         attend(self.bidders, self.bound, after, lambda: resource.prlimit(process, resource.RLIMIT_FSIZE, (LIMIT, LIMIT)))
         return self
 
     def is_answered(self):
-        """Whether each was answered, as it should be: those that were accepted have the next numbers, each once."""
+        """Whether every bidder was answered as it should be: the accepted commands have the next numbers, each once."""
         counts["answers"] += sum(len(bidder.numbers) + len(bidder.failed) for bidder in self.bidders)
         wrong = wrong_of(self.bidders)
         self.compare("what isn't answered as it should be", wrong[:3], [])
@@ -124,7 +125,7 @@ class Trial:
         return not wrong
 
     def ends(self):
-        """It ends by itself, by the status that the documents have, and says why."""
+        """It ends by itself, with the status that the documents give, and says why."""
         written, status, said = self.server.end(self.bound)
         self.is_met = self.is_limited or self.faults.met() > 0
         counts["faults"] += self.is_met
@@ -137,7 +138,7 @@ class Trial:
         self.compare("what is shown after a fault", shown - {self.count}, set())
 
     def holds(self):
-        """All that has to be so at the end and after it."""
+        """Checks everything that has to hold at the end and after it."""
         if not self.is_answered():
             self.stop()
             return
@@ -154,7 +155,8 @@ class Trial:
             bidder.session.socket.close()
 
     def holds_calls(self):
-        """No promise is broken, and nothing is written or synced after what failed. It gives what a power cut may leave then."""
+        """No promise is broken, and nothing is written or synced after the call that failed. Gives the image that a
+        power cut may leave then."""
         calls = self.shim.calls(self.file)
         made = [call for _, call in calls]
         self.compare("promises", [*broken_promises(made, self.before, self.layout, LEAST[self.layout], len(FIRST))][:3], [])
@@ -173,8 +175,8 @@ class Trial:
         return picture
 
     def goes_on(self, picture):
-        """Whoever was told OK is in it, and of what was answered by 93 one batch at most, whole or not at all. What was answered so
-        is sent again."""
+        """Every command answered by OK is in the file. Of those answered by 93 it has at most one batch, whole or
+        not at all. They are sent again."""
         kept = count_kept(picture)
         self.compare(f"whether {picture.name} keeps {kept} commands of {self.count}", kept in self.may_keep, True)
         lines = [line for bidder in self.bidders for line in (*[*bidder.numbers][-1:], *bidder.failed)]
@@ -188,7 +190,8 @@ class Trial:
         self.is_whole(given, shown)
 
     def is_repeated(self, bidder, given, repeated, kept):
-        """The first that was answered by 93 may have been kept, and then the one before it is old; the next one was not."""
+        """The first bid that was answered by 93 may have been kept, and then the one before it is old. The next one
+        was not kept."""
         found = [number_in(given[line]) for line in bidder.failed]
         is_kept = bool(found) and found[0] <= kept
         who = f"b{bidder.place}, sent again"
@@ -199,7 +202,7 @@ class Trial:
             self.compare(f"{who} and again", repeated[bidder.failed[-1]], given[bidder.failed[-1]])
 
     def is_whole(self, given, shown):
-        """Each number is that of one command, and in their order they are the auction that is shown."""
+        """Each number belongs to one command. In the order of their numbers they give the auction that is shown."""
         story = dict(enumerate(FIRST, 1))
         for bidder in self.bidders:
             found = {**bidder.numbers, **{line: number_in(given[line]) for line in bidder.failed}}
@@ -220,7 +223,7 @@ def is_failed(call):
 
 
 def stage_of(calls, failed):
-    """What a call of the device was for, by the calls of its thread."""
+    """The purpose of a call of the device, by the calls of its thread."""
     thread, name = calls[failed][0], ""
     for by, call in calls[: failed + 1]:
         if by == thread and call[:2] == ("write", "file"):
@@ -249,5 +252,5 @@ def sleep_all(server):
 
 
 def connect(trial, count):
-    """So many sessions, whose answers are waited for so long."""
+    """Connects so many sessions that wait as long for their answers as the trial allows."""
     return [Session(trial.server.port, trial.bound) for _ in range(count)]

@@ -1,20 +1,21 @@
-"""Which calls a program has to make of a file, worked out from docs/FORMATS.md apart from it, and what their order promises."""
+"""The calls that a program has to make of a file, and the promises of their order: worked out from docs/FORMATS.md,
+independently of the program."""
 import outside
 from calls import told
 from encoder import CHUNKS, CLOSED, FRAME, HEAD_AT, HEAD_SIZE, MAGIC, OPEN, SLOTS, Auction, Image
 from encoder import body_of, frame_at, head, record
 from outside import PAGE
 
-# The advice to drop what the system has in memory.
+# The advice to drop the pages that the system has in memory.
 DROP = 4
-# In pieces of so many bytes a file that is served is compared with what was written.
+# To compare a served file with the writes, it is read in pieces of this many bytes.
 PIECE = 65_536
-# How the file is made that must not be there.
+# How a file is opened that mustn't exist yet.
 MADE = "to read and write, made, not there"
 
 
 class Engine:
-    """The calls that have to be made of a file, in their order, and what the file then holds."""
+    """The calls that have to be made of a file, in their order, and the contents of the file after them."""
 
     def __init__(self, layout, journal, image=None, waivers=0):
         self.layout, self.journal, self.waivers = layout, journal, waivers
@@ -24,14 +25,14 @@ class Engine:
         self.states[0] = self.auction.state(0)
 
     def keeps(self, batches):
-        """What its file has from before."""
+        """Takes over the batches that its file has from before."""
         for count, lines in enumerate(batches, 1):
             for line in lines:
                 self.auction.take(line)
             self.states[count] = self.auction.state(count)
 
     def taken(self):
-        """The calls since the last time."""
+        """The calls since it was last called."""
         calls, self.calls = self.calls, []
         return calls
 
@@ -53,7 +54,7 @@ class Engine:
         self.ask("write", at, bytes(data))
 
     def repeat(self, call):
-        """What a call that was made leaves in the file."""
+        """Repeats in `image` what a call changed in the file."""
         if call[:2] == ("write", "file"):
             self.image[call[2] : call[2] + len(call[3])] = call[3]
 
@@ -64,10 +65,10 @@ class Engine:
     def frame(self, index):
         return frame_at(self.layout, self.journal, index)
 
-    # Before the first call of the device, and behind the last.
+    # Before the first call of the device, and after the last.
 
     def take_file(self, access="to read and write", lock="alone"):
-        """A file that is there is opened and locked, and what is read then is on the medium."""
+        """Opens and locks an existing file. Everything read after that is on the medium."""
         self.ask("open", access)
         self.ask("lock", lock)
         self.settle()
@@ -83,7 +84,8 @@ class Engine:
         self.ask("close", of=of)
 
     def make_file(self, left=0):
-        """One of zeros is made beside its name, where what a killed process left is removed, and named when it is whole."""
+        """Makes a file of zeros beside its name, and names it when it is whole. If a killed process left a file
+        there, that is removed first."""
         self.image = bytearray(len(self.image))
         self.ask("open", "to read", of="folder")
         if left:
@@ -107,7 +109,7 @@ class Engine:
     # The calls of the device.
 
     def format(self):
-        """Whether it was formatted: a device that is one already isn't."""
+        """Whether the file was formatted. If it already has a format, it isn't."""
         self.ask("sync")
         if self.reads_open(0):
             self.read(HEAD_AT, len(MAGIC))
@@ -135,16 +137,16 @@ class Engine:
                 self.compare()
 
     def compare(self):
-        """Whether all of it is as it was written, piece by piece."""
+        """Reads the whole file, piece by piece, to compare it with the writes."""
         for at in range(0, len(self.image), PIECE):
             self.read(at, min(PIECE, len(self.image) - at))
 
     def look(self):
-        """What people are told of: its first pages."""
+        """Reads the first pages, for messages about the file."""
         self.read(0, HEAD_AT + HEAD_SIZE)
 
     def open(self):
-        """A sync, then reads alone. What is known then: where the next batch goes, and which frames are clean."""
+        """A sync, then only reads. They tell the place of the next batch and the frames that are clean."""
         self.ask("sync")
         self.read(0, 1)
         self.read(HEAD_AT, HEAD_SIZE)
@@ -159,25 +161,25 @@ class Engine:
         clean = 0
         while self.next + clean < self.covered + self.journal and not self.is_open(self.frame(self.next + clean)):
             clean += 1
-        # The frames of the batches from this one to the last that is covered aren't clean.
+        # The frames of the batches from this one to the last covered one aren't clean.
         self.first_unclean = self.next + clean - self.journal
         self.look_for_doubts()
 
     def look_for_doubts(self):
-        """The other slot is looked at once more, and each frame for a batch of one round later."""
+        """Looks at the other slot once more, and at each frame for a batch of one round later."""
         self.read_slot(SLOTS[1 - self.newest])
         for index in range(self.covered + self.journal, self.covered + 2 * self.journal):
             self.read(self.frame(index), FRAME[self.layout])
 
     def read_slot(self, slot):
-        """How many batches it covers; less than none where it is closed."""
+        """How many batches the slot covers, or -1 if it is closed."""
         if not self.reads_open(slot):
             return -1
         self.read(slot + PAGE, CHUNKS * PAGE)
         return int.from_bytes(self.image[slot + PAGE + 16 : slot + PAGE + 24], "big")
 
     def index_in(self, index):
-        """Of an open frame the index of its batch."""
+        """The index of the batch in an open frame. If the frame is closed, -1."""
         at = self.frame(index)
         return int.from_bytes(self.image[at + 16 : at + 24], "big") if self.is_open(at) else -1
 
@@ -185,7 +187,7 @@ class Engine:
         return self.first_unclean + self.journal - self.next
 
     def commit(self, lines):
-        """A batch of these commands, all of which are newly accepted."""
+        """Commits a batch of these commands, all of which are newly accepted."""
         first = self.auction.count + 1
         for line in lines:
             self.auction.take(line)
@@ -198,7 +200,8 @@ class Engine:
         self.states[self.next] = self.auction.state(self.next)
 
     def checkpoint(self, batches=None):
-        """One that covers so many batches, or all; where all were covered, what is left of the last one."""
+        """Makes a checkpoint that covers this many batches, or all. If all were covered already, it finishes the
+        last checkpoint."""
         batches = self.next if batches is None else batches
         if batches > self.covered:
             self.write_slot(batches)
@@ -222,7 +225,7 @@ class Engine:
     # A run.
 
     def run(self, lines, answers, batch, every, link=False):
-        """The calls for these lines, which are there at once, with their answers, which leave before more is begun."""
+        """The calls of a run. Its lines are there from the start, and answers leave before any more work begins."""
         self.take_file()
         self.sync_folder()
         if link:
@@ -248,13 +251,14 @@ class Engine:
         self.waiting = b""
 
     def make_due(self):
-        """A checkpoint after each so many batches is made when all answers have left, whether or not a full journal took one."""
+        """Makes the checkpoint that is due after each `every` batches. It is made when all answers have left,
+        even if a full journal has just caused one."""
         if self.every and self.since_due >= self.every:
             self.checkpoint()
             self.since_due = 0
 
     def answer(self, queue):
-        """A batch, of which what is new is made durable before any of it is answered."""
+        """Answers a batch. Its new commands are made durable before any of it is answered."""
         if not queue:
             return
         self.leave()
@@ -269,7 +273,7 @@ class Engine:
 
 
 def answers_of(lines, waivers=0):
-    """Those of an auction in memory."""
+    """The answers of an auction in memory."""
     return outside.run(text=outside.with_waivers(waivers) + outside.text_of(lines)).output.encode().splitlines(keepends=True)
 
 
@@ -278,7 +282,7 @@ def overlap(at, size, place, count):
 
 
 class Durable:
-    """What is durable of a file after some of its calls."""
+    """The contents of a file that are durable after some of its calls."""
 
     def __init__(self, image):
         self.image, self.pending = bytearray(image), []
@@ -292,7 +296,7 @@ class Durable:
             self.pending = []
 
     def is_closed(self, gate):
-        """In all that a crash may leave."""
+        """Whether the gate is closed in everything that a crash may leave."""
         return self.image[gate] != OPEN[0] and not self.is_pending(gate, 1)
 
     def is_pending(self, at, size):
@@ -307,8 +311,13 @@ def gates_of(layout, journal):
 
 
 def broken_promises(calls, image, layout, journal, kept=0):
-    """What is written behind a gate that may be open, which gate is opened over bytes that aren't durable, or closed though it is
-    closed, and what is answered before it is durable, in a file that kept so many commands. The threads don't matter here."""
+    """Each call that breaks a promise, in a file that kept this many commands. The threads don't matter here. A call
+    breaks a promise if it
+
+    - writes behind a gate that may be open,
+    - opens a gate over bytes that aren't durable,
+    - closes a gate that is closed, or
+    - answers a command that isn't durable yet."""
     durable, gates, counts = Durable(image), gates_of(layout, journal), {}
     for place, call in enumerate(calls):
         if call[:2] == ("write", "file"):
@@ -323,14 +332,14 @@ def broken_promises(calls, image, layout, journal, kept=0):
 
 
 def count_in(at, data, gates):
-    """The number of the last command of a batch that is written, by the gate of its frame."""
+    """When the body of a frame is written: the gate of the frame, and the number of the last command in the batch."""
     for gate, (body, size) in gates.items():
         if gate not in SLOTS and at == body:
             yield gate, last_number(data)
 
 
 def last_number(body):
-    """That of the last command of a batch."""
+    """The number of the last command of a batch."""
     return int.from_bytes(body[8:16], "big") + int.from_bytes(body[16:18], "big") - 1
 
 
@@ -345,5 +354,5 @@ def faults_of(at, data, durable, gates):
 
 
 def numbers_in(text):
-    """Those of the commands that are answered by OK."""
+    """The numbers of the commands that are answered by OK."""
     return [int(line[3:]) for line in text.decode().splitlines() if line.startswith("OK ")]
