@@ -32,7 +32,7 @@ class Shim:
         return {**os.environ, "LD_PRELOAD": str(self.library), "CALLS": str(self.lines), "LIE": lie}
 
     def sees(self):
-        """Whether the library saw any write. It sees none if a program doesn't load the library."""
+        """Whether the library saw any output. It sees none if a program doesn't load the library."""
         return self.lines.exists() and " put " in self.lines.read_text()
 
     def calls(self, file, link=None):

@@ -84,7 +84,7 @@ def frame_at(layout, journal, index):
 
 
 def sender_of(line):
-    """The bidder of a bid or a waiver. None, if the auctioneer sends the command."""
+    """The bidder of a bid or a waiver. If the auctioneer sends the command, an empty text."""
     kind, first, *_ = line.split()
     return first if kind in ("BID", "WAIVE") else ""
 

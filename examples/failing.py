@@ -59,8 +59,8 @@ class Faults:
         return DELAY.size + place * RULE.size
 
     def set(self, kinds, way, first=1, last=None, step=1, thread=ANYBODY, error=errno.EIO, place=0):
-        """From now on, the first such call meets the rule, or each `step`-th one up to the last. The kinds are set
-        last, since they start the rule."""
+        """From now on, such calls meet the rule from number `first` to `last`, one in each `step`; by default only one. The
+        kinds are set last, since they start the rule."""
         last = first if last is None else last
         RULE.pack_into(self.shared, self.at(place), 0, thread, first, last, step, way, error, 0, 0)
         struct.pack_into("=q", self.shared, self.at(place), kinds)

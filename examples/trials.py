@@ -46,7 +46,7 @@ def prepare(folder):
 
 
 def template(folder, layout):
-    """The bytes of a file in which each command so far was given a batch and a checkpoint."""
+    """The bytes of a file that keeps FIRST, each command in a batch and a checkpoint of its own."""
     if layout not in templates:
         file = folder / "template"
         run(*format_words(file, LEAST[layout], layout), text=DEFINITION)
