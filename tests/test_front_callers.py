@@ -118,6 +118,8 @@ def test_lines_of_one_connection_wait_for_those_of_others(front: Front) -> None:
         assert front.client("bob").welcome == "WELCOME bob"  # type: ignore[attr-defined]
         other.send(b"NODE a\n")
         assert front.client("bob").welcome == "WELCOME bob"  # type: ignore[attr-defined]
+        # The front may read the line later than it welcomes another name.
+        time.sleep(1)
     assert other.line() == NODE_A
     assert front.stop().status == 0
     assert [line["line"] for line in front.log_lines("answered") if line["name"] == "carl"].index("NODE a") <= 2
