@@ -97,8 +97,8 @@ class Rude:
 
 
 class Day:
-    """A world with its callers. `faults` are words of `wild`, and besides: on "slow" days lines have to wait by their rate; on days with
-    "hangs" the disk and the server do nothing any more once the front has to stop."""
+    """A world with its callers. `faults` are words of `wild`, and two more. On "slow" days lines have to wait for their name's rate. On
+    days with "hangs" the disk and the server stop working once the front has to stop."""
 
     def __init__(self, seed: int, faults: frozenset[str] = frozenset(), limits: Limits = LIMITS) -> None:
         source = random.Random(seed)

@@ -92,7 +92,7 @@ class Promises(Watch):
     def forget(self) -> None:
         self.told: dict[int, bytes] = {}
         self.outstanding: set[int] = set()
-        # All connections of this front; lines of those that vanished, which were told or dropped.
+        # All connections of this front; the lines of vanished connections, which may have been sent to the server or dropped.
         self.wires: list[Wire] = []
         self.uncertain: set[bytes] = set()
         self.came: dict[str, deque[tuple[Wire, bytes]]] = {name: deque() for name in ROLES}

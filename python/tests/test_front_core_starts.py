@@ -163,7 +163,7 @@ def asking() -> tuple[World, Wire]:
 
 
 def ended(world: World) -> World:
-    """Once it is told to stop, and has ended."""
+    """Stops the front, and gives the world after its end."""
     world.post(events.Stop())
     for _ in range(1000):
         if world.front is None:
@@ -210,7 +210,7 @@ def test_a_number_waits_for_smaller_ones_that_may_still_come() -> None:
 
 
 def test_a_number_that_is_nobody_s_is_foreign() -> None:
-    """Once every command that was told before it is answered otherwise."""
+    """It is known to be foreign once each command that was sent before it has got another answer."""
     ledger, one = Ledger(count=2).took_place()
     told = ledger.tell(one)
     waiting = held(told, 5, 1)

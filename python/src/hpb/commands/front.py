@@ -4,14 +4,24 @@
     tools/front --config front.toml                   serves until SIGTERM, or until the auction is over
     tools/front --config front.toml tokens list       the ids of all tokens; `add NAME` and `revoke ID` change them
 
-It starts `hpb serve` in a network of its own, keeps it running, takes any number of connections, over TLS if there is a certificate, and
-writes each line with its answer into a record before the answer leaves. If the configuration has a board it serves a page that follows
-the auction, too. docs/FRONT.md has the configuration, the lines, the record, the log, and what is promised. It writes
-`LISTENING address port` once it can be connected to, `BOARD` and the address of the page, a line with the record's hash after each close,
-and `STOPPED n` at the end, n being how many commands are accepted in all. SIGHUP makes it read tokens, certificate and limits again.
+It starts `hpb serve` in a network of its own and keeps it running. It takes any number of connections, over TLS if there is a certificate.
+Before an answer leaves, the line and the answer are written into a record. If the configuration has a board, it also serves a page that
+follows the auction. docs/FRONT.md describes the configuration, the lines, the record and the log, and states the promises.
 
-It ends with 0 when it was told to stop or the auction is over, with 1 when it can't go on, and with 2 when its words or its
-configuration are wrong. Needs Python 3.11 and Linux.
+On standard output it writes:
+
+- `LISTENING address port`, once clients can connect;
+- `BOARD` and the address of the page, if there is one;
+- a line with the record's hash after each close;
+- `STOPPED n` at the end: n commands are accepted in all.
+
+SIGHUP makes it read tokens, certificate and limits again. The status is:
+
+- 0, after a signal to stop, or when the auction is over;
+- 1, if it can't go on;
+- 2, if its arguments or its configuration are wrong.
+
+Needs Python 3.11 and Linux.
 """
 import signal
 

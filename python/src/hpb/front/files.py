@@ -50,7 +50,7 @@ def of_record(path: str) -> Kept:
 
 
 def of_change(field: str, path: str) -> Kept:
-    """What is changed by a new file in its place."""
+    """For a file that is changed by putting a new file in its place."""
     return Kept(field, path, lambda tail: OF_CHANGE.fullmatch(tail) is not None)
 
 
@@ -75,7 +75,7 @@ def look_at_files(files: list[Kept]) -> None:
 
 
 def look_beside(one: Kept, other: Kept) -> None:
-    """Whether one is a name of what is made beside the other, or leads to the same file as what was made there."""
+    """Raises a Wrong if a file has a name that is kept for files made beside the other, or leads to the same file as one of these."""
     if any(other.would_make(name) for name in one.names()):
         raise Wrong(f"{one.field}: {one.path} is a name of what is made beside the {other.field}, {other.path}: choose another")
     for made in other.made():

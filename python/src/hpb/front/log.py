@@ -40,7 +40,7 @@ BURST_SECONDS = 2
 
 
 class Sink(Protocol):
-    """Where whole lines go."""
+    """Takes whole lines and writes them somewhere."""
 
     def write(self, line: bytes) -> None:
         """Returns once the system has the line, or raises an OSError."""
@@ -48,7 +48,7 @@ class Sink(Protocol):
 
 @dataclass
 class Stream:
-    """An open descriptor, as standard error is one. What was written of a line that failed is ended before the next one."""
+    """An open descriptor, such as standard error. If only a part of a line could be written, that part gets an LF before the next line."""
 
     descriptor: int
     is_torn: bool = False
@@ -148,7 +148,7 @@ class Log:
     """Takes lines from any thread, and writes them in the order in which they came.
 
     `per_second` says how many lines of each kind may come, on the average; twice as many may come at once. Kinds that aren't named there
-    have no limit but what can be written. `warn` is told where nothing can be written, once a minute at most.
+    are limited only by how fast lines can be written. If nothing can be written, `warn` gets the error, once a minute at most.
     """
 
     sink: Sink
@@ -186,7 +186,7 @@ class Log:
 
     def keep_writing(self) -> None:
         while True:
-            # Whatever fails, the thread goes on: without it nothing would be written any more, and nobody would be told.
+            # Whatever fails, the thread goes on: if it ended, nothing more would be written, and nobody would learn of it.
             try:
                 self.write_next()
             except Exception as fault:

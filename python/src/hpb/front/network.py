@@ -31,7 +31,7 @@ class Refused(Exception):
 
 @dataclass(frozen=True)
 class Address:
-    """Where to listen: an address in figures and a port, 0 for any that is free; and the configuration's field that says so."""
+    """An address to listen at: the host in figures, a port (0 for any that is free), and the configuration's field that names it."""
 
     field: str
     host: str
@@ -50,7 +50,8 @@ class Address:
 
 
 def take(address: Address, given: list[socket.socket]) -> socket.socket:
-    """The socket of an address, which listens: one of those that were handed in, or a new one. Who connects waits until he is let in."""
+    """The listening socket of an address: one of those that were handed in, or a new one. Clients that connect wait until the front takes
+    them."""
     taken = next((handed for handed in given if address.is_of(handed)), None)
     try:
         if taken is None:
@@ -117,7 +118,7 @@ def is_apart(listeners: list[socket.socket]) -> bool:
 
 
 def cookie_of(one: socket.socket) -> bytes | None:
-    """What tells networks from one another; nothing where the kernel is older than 5.14."""
+    """The kernel's number of the socket's network, or nothing if the kernel is older than 5.14."""
     try:
         return one.getsockopt(socket.SOL_SOCKET, SO_NETNS_COOKIE, COOKIE_BYTES)
     except OSError:
@@ -125,7 +126,7 @@ def cookie_of(one: socket.socket) -> bytes | None:
 
 
 def unshare() -> None:
-    """A new network; where only root may have one, in a user namespace in which this user is itself."""
+    """Enters a new network. If only root may have one, it enters a new user namespace too, in which this user keeps its own id."""
     user, group = os.geteuid(), os.getegid()
     if not call_unshare(CLONE_NEWNET):
         return

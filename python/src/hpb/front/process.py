@@ -63,7 +63,7 @@ class Child:
         self.process.poll()
 
     async def line(self, seconds: float) -> str:
-        """Its next line; empty where it ends before, or nothing comes for so long."""
+        """Its next line. The text is empty if it ends first, or if nothing comes within so many seconds."""
         try:
             return await asyncio.wait_for(self.next_line(), seconds)
         except asyncio.TimeoutError:
@@ -106,7 +106,7 @@ class Child:
         return self.process.poll()
 
     async def end(self) -> None:
-        """Kills it, and waits until it is gone; not for ever, as where a disk holds it."""
+        """Kills it, and waits until it is gone. The wait has a limit, because a disk that hangs may hold the process."""
         self.process.kill()
         await asyncio.wait([self.exited], timeout=GONE_SECONDS)
         self.exited.cancel()

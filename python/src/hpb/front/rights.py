@@ -19,7 +19,7 @@ FORM, RIGHTS, LONG, UNKNOWN, MANY, IDLE = REFUSALS = ("line", "rights", "long", 
 
 
 def refused(word: str) -> bytes:
-    """A line of the front's own. The server has a number where this has `front`."""
+    """A refusal by the front itself. It has `front` in the place of the server's number."""
     return f"ERR front {word}".encode()
 
 
@@ -46,7 +46,7 @@ class Role(NamedTuple):
         return None
 
     def seen(self, tree: Tree) -> list[str]:
-        """The bidders of a definition that it may ask about by WHO."""
+        """The bidders of a definition about which this role may ask WHO."""
         everyone: dict[str, list[str]] = {AUCTIONEER: list(tree.bidders), OBSERVER: []}
         return everyone.get(self.kind, list(self.bidders))
 

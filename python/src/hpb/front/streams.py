@@ -1,6 +1,6 @@
-"""Standard streams that lead into a file of the front: what is said would be written there (docs/FRONT.md).
+"""Keeps the front's words out of its own files: a standard stream may lead into one of them (docs/FRONT.md).
 
-This is looked at before anything is said, however bad the words and the configuration are.
+This is looked at before anything is said, even if the arguments and the configuration are wrong.
 """
 import contextlib
 import os

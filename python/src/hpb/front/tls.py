@@ -1,7 +1,7 @@
 """TLS of a front's connections: the costly part of it is done by a thread that gives way to bidders (docs/FRONT.md).
 
-A handshake costs a signature. Each is done by one thread, step by step: addresses take turns, one address has so many a second, and all
-together have so many. What comes afterwards is cheap, and is done where the lines are read.
+A handshake costs a signature. One thread does all handshakes, step by step. Addresses take turns, and the number of handshakes per second
+is limited, for each address and for all together. The rest of TLS is cheap, and the event loop does it.
 """
 import asyncio
 import collections
@@ -24,7 +24,7 @@ AHEAD_SECONDS = 0.25
 
 
 class Inner(Protocol):
-    """What reads and writes in clear: an asyncio.Protocol, which is told why TLS has ended."""
+    """Reads and writes in clear: an asyncio.Protocol that also learns why TLS has ended."""
 
     def connection_made(self, transport: "Tls") -> None: ...
     def connection_lost(self, fault: Exception | None) -> None: ...
@@ -90,7 +90,7 @@ class Handshakes:
         with contextlib.suppress(OSError):
             os.setpriority(os.PRIO_PROCESS, threading.get_native_id(), NICE)
         while True:
-            # Whatever fails is told: without this thread nobody is let in any more.
+            # Any failure is reported to the front: without this thread nobody is let in any more.
             try:
                 one = self.steps.get()
                 self.loop.call_soon_threadsafe(self.done, one, one.step())
@@ -197,7 +197,7 @@ class Tls(asyncio.Protocol):
     def end_badly(self, why: str) -> None:
         self.inner.tls_failed(why)
         if self.transport:
-            # What it is told of the fault is a few bytes: they are sent at once, or not at all.
+            # TLS has an alert of a few bytes for the client: it is sent at once, or not at all.
             self.transport.close()
 
     # In clear.

@@ -25,7 +25,7 @@ ID_DIGITS = 12
 
 @dataclass(frozen=True)
 class Token:
-    """Whose it is, and its SHA-256."""
+    """The name that has the token, and the token's SHA-256."""
 
     name: str
     digest: bytes
@@ -156,7 +156,8 @@ class TokenFile:
 
     @contextlib.contextmanager
     def change(self) -> Iterator[NewFile]:
-        """The new file of a change: what is read within is what the change goes on from. A Wrong says why there is none."""
+        """The new file of a change. Read the old file within it, because nobody else changes the file meanwhile. A Wrong says why no change
+        is possible."""
         try:
             with changing(self.path, self.is_rest) as new:
                 yield new

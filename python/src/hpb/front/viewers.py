@@ -2,9 +2,11 @@
 
     python3 -m hpb.front.viewers CONFIG DESCRIPTOR GIVEN
 
-Its standard input is a connection to the front, on which it asks questions; DESCRIPTOR is a socket that listens, and GIVEN a file in which
-the front has put what it has of the configuration CONFIG, of tokens and certificate. It writes `BOARD` and the address of the page once it
-can be opened, then a line of JSON for each request, and ends when the front does. docs/BOARD.md says who sees what.
+Standard input is a connection to the front, over which it asks questions. DESCRIPTOR is a listening socket. GIVEN is a file in which the
+front has put the parts of the configuration CONFIG, of the tokens and of the certificate that the page needs.
+
+Once the page can be opened, it writes `BOARD` and the page's address, and then a line of JSON for each request. It ends when the front
+does. docs/BOARD.md says who sees what.
 """
 import os
 import signal

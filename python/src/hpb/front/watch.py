@@ -1,7 +1,7 @@
 """Signals to a front, and the limit after which it ends whatever hangs (docs/FRONT.md).
 
-Two threads do nothing else: one takes signals, the other ends the process where the rest doesn't do so in time. So a loop that is held up by
-a disk, by a program that doesn't start or by a want of memory is ended as well.
+Two threads do nothing else: one takes signals, and the other ends the process if the rest doesn't end it in time. So a loop is ended even
+if a disk, a program that doesn't start or a lack of memory holds it up.
 """
 import asyncio
 import contextlib

@@ -9,7 +9,7 @@ from collections.abc import Callable
 
 from hpb.streams import STANDARD_ERROR, STANDARD_OUTPUT, write_all
 
-# So many lines wait to be read, as where a terminal was stopped by Ctrl-S; what comes then is counted.
+# So many lines wait for a reader, who may have stopped the terminal by Ctrl-S. Lines beyond that are only counted.
 MOST_UNREAD = 1_000
 # How long the last of them may still be read.
 READ_SECONDS = 2.0
@@ -17,8 +17,8 @@ POLL_SECONDS = 0.02
 
 
 class Writer:
-    """Writes lines to a stream in a thread of its own: nobody has to read them, and who bids doesn't wait until somebody does. `warn` is
-    told of the first line that can't be written."""
+    """Writes lines to a stream in a thread of its own, so that bidders don't wait for whoever reads the stream. `warn` gets the error of
+    the first line that can't be written."""
 
     def __init__(self, stream: int, warn: Callable[[OSError], None] = lambda fault: None) -> None:
         self.stream, self.left_out, self.warn, self.has_failed = stream, 0, warn, False
@@ -33,7 +33,7 @@ class Writer:
 
     def keep_writing(self) -> None:
         while True:
-            # Whatever fails, the thread goes on: else nothing would be told any more.
+            # Whatever fails, the thread goes on: if it ended, nothing more would be written.
             with contextlib.suppress(Exception):
                 self.write_next()
 
@@ -82,7 +82,7 @@ class Teller:
         self.say(f"standard output can't be written: {fault.strerror}")
 
     def end(self) -> bool:
-        """Waits until all is read, two seconds at most. Whether standard output took what was told."""
+        """Waits until all is read, two seconds at most. The result is whether all lines for standard output could be written."""
         self.output.end(READ_SECONDS / 2)
         self.errors.end(READ_SECONDS / 2)
         return not self.output.has_failed

@@ -1,8 +1,10 @@
-"""What stands beside a record, in `auction.record.asked`: the commands that the server may have been told and that have no answer yet, and
-how far the record is known to be on the disk (docs/FRONT.md).
+"""The file beside a record, `auction.record.asked` (docs/FRONT.md).
 
-The file has places of 1,024 bytes, each a sealed line filled up with spaces. The first names the last entry that was synced; each of the
-others has a command, and is used again once that is answered. So the file stays as small as the commands that wait at one time.
+It has the commands without an answer that may have been sent to the server. It also says how far the record is known to be on the disk.
+
+The file is made of places of 1,024 bytes, each a sealed line filled up with spaces. The first place names the last entry that was synced.
+Each other place holds a command, and is free again once that command is answered. So the file needs only as many places as commands wait at
+one time.
 """
 import os
 from typing import NamedTuple
@@ -23,7 +25,7 @@ class Mark(NamedTuple):
 
 
 class Asked(NamedTuple):
-    """A command that the server may have been told."""
+    """A command that may have been sent to the server."""
 
     name: str
     line: bytes
@@ -38,7 +40,7 @@ def filled(fields: Entry) -> bytes:
 
 
 def fields_of(place: bytes) -> Entry:
-    """What a place has: nothing where it was never written, or a crash tore it while it was."""
+    """The fields of a place. There are none if it was never written, or if a crash tore its last write."""
     line = place.rstrip(b" \n") + b"\n"
     if len(line) <= HASH_BYTES or not is_sealed(line):
         return {}
@@ -82,7 +84,7 @@ class AskedFile:
         write_at(self.file, filled(fields), 0)
 
     def put(self, places: dict[int, Asked | None]) -> None:
-        """Fills these places, counted from 0, or empties them. What is put there is on the disk when this returns."""
+        """Fills these places, counted from 0, or empties them. Filled places are on the disk when this returns."""
         for number, asked in places.items():
             place = filled({"name": asked.name, "line": text_of(asked.line), "at": time_now()}) if asked else EMPTY
             write_at(self.file, place, (1 + number) * PLACE_BYTES)

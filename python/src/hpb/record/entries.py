@@ -11,7 +11,7 @@ NO_HASH = "0" * 64
 HASH_BYTES = len(NO_HASH)
 OK = "OK "
 MEGABYTE = 1_000_000
-# No entry is longer, in bytes; what is, isn't read into memory.
+# No entry is longer, in bytes. Of a longer line only so much is read into memory.
 MOST_ENTRY = 2 * MEGABYTE
 # No write has more bytes, but one that has one entry alone.
 MOST_WRITE = 65_536
@@ -41,7 +41,7 @@ class InUse(Exception):
 
 
 class Place(NamedTuple):
-    """Where a record ends: the number of its last entry, and its hash."""
+    """A place in a record: the number of the entry before it, and that entry's hash."""
 
     number: int = 0
     hash: str = NO_HASH

@@ -24,8 +24,8 @@ class RecordFile:
     """A record that entries are added to. `place` is the last entry that is on the disk, and `state` what all up to it come to."""
 
     def __init__(self, path: str, most_segment: int = MOST_SEGMENT) -> None:
-        """Takes the record's lock, and makes the record where there is none. An InUse says that another front has it, a WrongSegment that
-        one is missing, and an OSError that somebody else owns it or may write it."""
+        """Takes the record's lock, and makes the record if there is none. An InUse says that another front has it. A WrongSegment says that
+        a segment is missing. An OSError may say that somebody else owns the record or may write it."""
         self.path, self.most_segment = str(path), most_segment
         paths = segment_paths(self.path)
         self.lock = open_own(self.path, HOW, may_make=not paths)
@@ -46,8 +46,8 @@ class RecordFile:
     # The start.
 
     def open(self, may_set_aside: bool = False) -> Entry | None:
-        """Reads the last segment, and compares the seals of those before. What a crash left torn is set aside; its length and the file that
-        it is put into, or nothing. A Damaged says what was changed, is missing, or belongs to something else."""
+        """Reads the last segment, and compares the seals of those before it. If a crash left a torn end, sets it aside, and returns its
+        length and the file that holds it now. A Damaged says which part was changed, is missing, or belongs to another record."""
         paths, mark = segment_paths(self.path), self.asked.mark()
         for path in paths:
             look_at_owner(path, os.stat(path))
@@ -70,7 +70,8 @@ class RecordFile:
         return self.set_aside(torn) if torn else None
 
     def read_segment(self, path: str, mark: Mark) -> tuple[str, str]:
-        """The hash of the entry that is marked, where it stands there, and why the entry behind the whole ones isn't whole."""
+        """Reads the last segment's whole entries. Gives the hash of the marked entry, if this segment has it, and the fault of the first
+        entry that isn't whole, if there is one."""
         self.place = head_of(path)[1] if self.segment > 1 else Place()
         marked = fault = ""
         with open(path, "rb") as file:
@@ -85,7 +86,8 @@ class RecordFile:
         return marked, fault
 
     def look_behind(self, path: str, fault: str) -> None:
-        """A crash tears what was written last and not synced. A Damaged says that what stands behind the whole entries isn't that."""
+        """Checks the bytes after the whole entries: a crash can tear only the last write, before it is synced. If they show anything else,
+        a Damaged says so."""
         with open(path, "rb") as file:
             if not self.place.number and not may_be_first(file.read(HASH_BYTES + len(FIRST))):
                 raise Damaged("entry 1 isn't one: is it another file?")

@@ -12,8 +12,8 @@ from hpb.rules.told import NotTold, Told, read_standing, read_told
 
 @dataclass
 class Replay:
-    """What an auction in memory shows that was told all commands. `standings` has how it stood before the first close and after each one;
-    `end` the answers to `questions` behind all commands; `faults` what differs from the record."""
+    """The states of an auction in memory that was given all commands of a record. `standings` has the state before the first close and
+    after each close. `end` has the answers to `questions` after all commands. `faults` says what differs from the record."""
 
     story: Story
     standings: list[Told] = field(default_factory=list)
@@ -28,8 +28,8 @@ class Replay:
         return ["SHOW", *(f"NODE {name}" for name in tree.nodes), *(f"WHO {bidder}" for bidder in tree.bidders)]
 
     def look_at_shown(self, shown: Iterable[tuple[int, str]], where: str) -> None:
-        """Answers to SHOW, each with its number there, have to be what the auction in memory shows after as many commands. `NotTold` is
-        raised where one is no whole answer."""
+        """Compares answers to SHOW with those of the auction in memory after as many commands. Each is given with its number in its source,
+        which `where` names. Raises `NotTold` if one isn't a whole answer."""
         for number, answer in shown:
             count = _read_shown(answer).count
             if self._shows.get(count) != answer:
@@ -75,8 +75,8 @@ class Replay:
 
 
 def replay(story: Story, program: str | PathLike[str]) -> Replay:
-    """Tells a program the commands of a record. `NotAnswered` is raised where it doesn't answer each line, and `NotTold` where an answer
-    isn't whole."""
+    """Runs the commands of a record on the program. Raises `NotAnswered` if it doesn't answer each line, and `NotTold` if an answer isn't
+    whole."""
     made = Replay(story)
     made._tell(program)
     return made

@@ -1,7 +1,7 @@
 """The segments of a record: `auction.record`, and behind it `auction.record.2`, `auction.record.3`, .. (docs/FRONT.md).
 
-A segment that is full ends by an entry `sealed` with the SHA-256 of all that stands before that entry. The next one begins with the
-length and the SHA-256 of the whole file before it, and with the state that its entries lead to: so a start reads the last one alone.
+A full segment ends with an entry `sealed`, which has the SHA-256 of everything before that entry. The next segment begins with the length
+and the SHA-256 of the whole file before it, and with the state after that file's entries. So a start reads only the last segment.
 """
 import hashlib
 import itertools
@@ -93,7 +93,7 @@ def first_line(path: str) -> bytes:
 
 
 def last_hash(path: str) -> str:
-    """The hash that the last line of a segment begins with, or an empty text where there is no whole line."""
+    """The hash of a segment's last entry, or an empty text if the last line isn't whole."""
     with open(path, "rb") as file:
         length = file.seek(0, os.SEEK_END)
         file.seek(max(0, length - MOST_ENTRY))
@@ -128,7 +128,7 @@ def look_at_seals(paths: list[str]) -> None:
 
 
 class Reader:
-    """Reads all segments whole, and checks each seal against what is there."""
+    """Reads all segments whole, and checks each seal against the file."""
 
     def __init__(self, path: str) -> None:
         self.paths = segment_paths(path) or [path]
@@ -244,7 +244,7 @@ def sync_folder(path: str) -> None:
 
 
 def write_new(path: str, pieces: Iterable[bytes]) -> None:
-    """A file that wasn't there, with these pieces; it is on the disk when this returns. Where that fails there is none."""
+    """Makes a file that wasn't there, of these pieces. It is on the disk when this returns. If that fails, there is no file."""
     file = os.open(path, os.O_WRONLY | os.O_CREAT | os.O_EXCL | os.O_CLOEXEC, MODE)
     try:
         with open(file, "wb") as out:

@@ -11,11 +11,11 @@ AUCTIONEER = ""
 
 @dataclass
 class State:
-    """What a record says of its auction.
+    """The state of an auction by its record.
 
     `count` is how many commands were accepted, `used` the last ticket of each sender, and `foreign` how many commands didn't come through
-    the front. `open` has the lines that were told to the server and have no answer, each under the number of its entry: records of the
-    first form keep them, those of the second keep them beside the record.
+    the front. `open` has the lines without an answer that were sent to the server, each under the number of its entry. Only records of the
+    first form have such entries; the second form keeps these lines in the file beside the record.
     """
 
     definition: Any = None

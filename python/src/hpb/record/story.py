@@ -39,8 +39,8 @@ class Story:
     _asked: dict[int, tuple[str, str]] = field(default_factory=dict)
 
     def take(self, entry: Entry, place: Place) -> None:
-        """Goes on by an entry. `Damaged` is raised where commands stand nowhere; an entry that no front writes may raise what comes of
-        that."""
+        """Takes the next entry. Raises `Damaged` if the entry says that commands are missing from the record. For an entry that no front
+        writes, it may raise any exception that follows from it."""
         self.place = place
         match entry["kind"]:
             case "begin":
@@ -87,8 +87,8 @@ class Story:
 
 
 def read_story(entries: Iterable[tuple[Entry, Place]]) -> Story:
-    """The story of all entries of a record. Raises what `Story.take` does, `Damaged` where it doesn't begin as a record, and a refusal
-    where its definition is none."""
+    """The story of all entries of a record. Raises what `Story.take` does, `Damaged` if the first entry doesn't begin a record, and a
+    refusal if the definition in it isn't valid."""
     story: Story | None = None
     for entry, place in entries:
         story = story or _begun(entry)

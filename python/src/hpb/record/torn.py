@@ -14,7 +14,7 @@ START = re.compile(rb'[0-9a-f]{64} \{"entry":')
 
 
 def may_be_first(data: bytes) -> bool:
-    """Whether a crash may have left this of a record's first entry: a front of it, with zeros where nothing was written."""
+    """Whether a crash may have left this of a record's first entry: the beginning of one, with zeros in the parts that weren't written."""
     data = data[: HASH_BYTES + len(FIRST)].rstrip(b"\0")
     return re.fullmatch(rb"[0-9a-f]*", data[:HASH_BYTES]) is not None and FIRST.startswith(data[HASH_BYTES:])
 
