@@ -73,7 +73,7 @@ def path_of(data: bytes) -> Iterator[str]:
 
 
 def no_password() -> str:
-    """Nobody is there to be asked for one."""
+    """OpenSSL asks for a password if the key has one: nobody is there to type it."""
     raise ValueError("the key has a password: write it without one")
 
 
