@@ -11,7 +11,7 @@ from hpb.streams import STANDARD_ERROR, STANDARD_OUTPUT, write_all
 
 # So many lines wait for a reader, who may have stopped the terminal by Ctrl-S. Lines beyond that are only counted.
 MOST_UNREAD = 1_000
-# How long the last of them may still be read.
+# Seconds in which the last of them may still be read.
 READ_SECONDS = 2.0
 POLL_SECONDS = 0.02
 
@@ -51,7 +51,7 @@ class Writer:
             self.lines.task_done()
 
     def end(self, seconds: float) -> None:
-        """Waits until all is read, so long at most. If the thread was never started it is written here."""
+        """Waits at most so many seconds until all lines are read. If the thread was never started, the lines are written here."""
         end = time.monotonic() + seconds
         while not self.thread.ident and self.lines.qsize():
             self.write_next()
@@ -60,7 +60,7 @@ class Writer:
 
 
 class Teller:
-    """What a front says on standard error, and tells on standard output."""
+    """The front's output: messages on standard error, and results on standard output."""
 
     def __init__(self) -> None:
         self.errors, self.output = Writer(STANDARD_ERROR), Writer(STANDARD_OUTPUT, self.warn)
@@ -71,11 +71,11 @@ class Teller:
         self.output.thread.start()
 
     def say(self, text: object) -> None:
-        """On standard error."""
+        """Writes a message on standard error."""
         self.errors.add(f"front: {text}")
 
     def tell(self, text: str) -> None:
-        """On standard output."""
+        """Writes a line on standard output."""
         self.output.add(text)
 
     def warn(self, fault: OSError) -> None:
@@ -89,7 +89,7 @@ class Teller:
 
 
 def cry(data: bytes) -> None:
-    """Writes last words on standard error, as far as they can be written at once: nothing else is sure to work any more."""
+    """Writes last words on standard error, if that doesn't block: nothing else is sure to work any more."""
     with contextlib.suppress(Exception):
         if select.select([], [STANDARD_ERROR], [], 0)[1]:
             os.write(STANDARD_ERROR, data)
