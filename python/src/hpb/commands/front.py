@@ -25,7 +25,7 @@ Needs Python 3.11 and Linux.
 """
 import signal
 
-# One that comes before the front can take it waits, from here on.
+# From here on, a signal waits until the front can take it.
 signal.pthread_sigmask(signal.SIG_BLOCK, {signal.SIGHUP})
 import argparse
 import asyncio
@@ -51,7 +51,7 @@ LOG_SECONDS = 0.5
 
 
 def serve(given: argparse.Namespace, teller: Teller) -> None:
-    """Takes what it needs of the machine's network, leaves it, and lets bidders in."""
+    """Takes its sockets in the machine's network, leaves that network, and serves."""
     config, terms = read_terms(given.config)
     tree = config.tree()
     for bidder in config.silent_bidders(tree):
@@ -74,12 +74,12 @@ def serve(given: argparse.Namespace, teller: Teller) -> None:
 
 
 async def run(config: Config, terms: Terms, tree: Tree, sockets: list[socket.socket], shell: Shell) -> None:
-    """Until its end; within the loop that it runs in."""
+    """Runs the front until its end, in its event loop."""
     await Running(config, terms, tree, sockets, shell).run()
 
 
 def do(given: argparse.Namespace, teller: Teller) -> None:
-    """What the words ask for."""
+    """Does what the arguments ask for."""
     if given.make_tokens or given.command:
         free_signals()
     if given.make_tokens:
@@ -91,7 +91,7 @@ def do(given: argparse.Namespace, teller: Teller) -> None:
 
 
 def main() -> int:
-    """The status that the process ends with."""
+    """Runs the command, and returns the status for the process to end with."""
     hold_closed_streams()
     if streams_lead_astray(sys.argv[1:]):
         return 2
@@ -112,10 +112,10 @@ def main() -> int:
 
 
 def main_and_exit() -> NoReturn:
-    """A thread that hangs in a call to the system isn't waited for."""
+    """A thread may hang in a call to the system: it isn't waited for."""
     try:
         status = main()
-    except SystemExit as ended:  # Help, or wrong words.
+    except SystemExit as ended:  # After the help, or after wrong arguments.
         status = ended.code if isinstance(ended.code, int) else 0
     except BaseException:  # As above.
         end_at_once()

@@ -21,12 +21,12 @@ __all__ = [
 
 
 def record_entries(path: str | PathLike[str]) -> Iterator[tuple[Entry, Place]]:
-    """Each entry of a record, with the place behind it."""
+    """Reads each entry of a record, with the place behind it."""
     return Reader(str(path)).entries()
 
 
 def read_record(path: str | PathLike[str]) -> tuple[list[Entry], Place]:
-    """All entries of a record, and the place behind the last."""
+    """Reads all entries of a record, and gives the place behind the last one."""
     entries, place = [], Place()
     for entry, place in record_entries(path):
         entries.append(entry)

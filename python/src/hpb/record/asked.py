@@ -18,7 +18,7 @@ EMPTY = bytes(PLACE_BYTES)
 
 
 class Mark(NamedTuple):
-    """An entry that was on the disk, and the first entry of its record."""
+    """The last entry that is known to be on the disk, and the hash of the record's first entry."""
 
     synced: Place
     first: str = NO_HASH
@@ -32,7 +32,7 @@ class Asked(NamedTuple):
 
 
 def filled(fields: Entry) -> bytes:
-    """A place that has these fields."""
+    """The bytes of a place with these fields. A ValueError says that they are too long."""
     line = sealed(json_of(fields))
     if len(line) > PLACE_BYTES:
         raise ValueError(f"{len(line)} bytes don't go into a place of {PLACE_BYTES}")
@@ -52,7 +52,7 @@ def fields_of(place: bytes) -> Entry:
 
 
 class AskedFile:
-    """The file beside a record. Whoever has the record's lock has this one, too."""
+    """The file beside a record. The record's lock protects this file, too."""
 
     def __init__(self, record: str) -> None:
         self.path = f"{record}.asked"
@@ -64,7 +64,7 @@ class AskedFile:
         return [fields_of(data[at : at + PLACE_BYTES]) for at in range(0, len(data), PLACE_BYTES)]
 
     def mark(self) -> Mark:
-        """How far the record was on the disk, as far as that is known."""
+        """How far the record is known to be on the disk."""
         places = self.places()
         fields = places[0] if places else {}
         try:
@@ -73,11 +73,12 @@ class AskedFile:
             return Mark(Place())
 
     def left(self) -> list[Asked]:
-        """The commands that stand there. Those that are in the record, or were refused, may be among them."""
+        """The commands in the file. Some of them may be in the record already, or may have been refused."""
         return [Asked(fields["name"], fields["line"].encode("latin-1")) for fields in self.places()[1:] if "line" in fields]
 
     def note(self, synced: Place) -> None:
-        """Notes that this entry is on the disk. The note itself is there by the next sync: until then less is known, and nothing wrong."""
+        """Notes that this entry is on the disk. The note itself is there after the next sync. Until then the file says less than is true,
+        but nothing wrong."""
         if synced.number == 1:
             self.first = synced.hash
         fields = {"form": FORM, "entry": synced.number, "hash": synced.hash, "first": self.first}
@@ -92,7 +93,7 @@ class AskedFile:
             self.sync()
 
     def clear(self) -> None:
-        """Empties all places of commands, once each is in the record or is known not to be in the file."""
+        """Empties all places, after each command is in the record or is known not to be in the auction's file."""
         if os.fstat(self.file).st_size > PLACE_BYTES:
             os.ftruncate(self.file, PLACE_BYTES)
             self.sync()
@@ -105,7 +106,7 @@ class AskedFile:
         os.fdatasync(self.file)
 
     def data(self) -> bytes:
-        """All that stands in the file."""
+        """The whole file, place by place."""
         return os.pread(self.file, os.fstat(self.file).st_size, 0)
 
     def close(self) -> None:

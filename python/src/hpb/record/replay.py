@@ -1,4 +1,4 @@
-"""The commands of a record, told to an auction in memory, and what that shows compared with what others saw."""
+"""Replays a record: runs its commands on an auction in memory, and compares the results with those that others saw."""
 from collections.abc import Iterable, Iterator
 from dataclasses import dataclass, field
 from os import PathLike
@@ -23,7 +23,7 @@ class Replay:
 
     @property
     def questions(self) -> list[str]:
-        """Those about all that an auction shows."""
+        """Questions whose answers have the auction's whole state."""
         tree = self.story.tree
         return ["SHOW", *(f"NODE {name}" for name in tree.nodes), *(f"WHO {bidder}" for bidder in tree.bidders)]
 
@@ -36,7 +36,8 @@ class Replay:
                 self.faults.append(f"{where} {number}: {answer!r} was shown, and after {count} commands it is {self._shows.get(count)!r}")
 
     def compare(self, path: str | PathLike[str], program: str | PathLike[str]) -> None:
-        """With what a file keeps, of which the program is asked by a copy. Raises what `read_image`, `read_head` and `Copy` raise."""
+        """Compares the last state with a file's, by questions to the program on a copy of the file. Raises what `read_image`, `read_head`
+        and `Copy` raise."""
         image = read_image(path)
         if read_head(image).definition != self.story.tree.definition:
             self.faults.append("the file has another definition")
