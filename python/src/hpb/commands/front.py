@@ -5,7 +5,7 @@
     tools/front --config front.toml tokens list       the ids of all tokens; `add NAME` and `revoke ID` change them
 
 It starts `hpb serve` in a network of its own and keeps it running. It takes any number of connections, over TLS if there is a certificate.
-Before an answer leaves, the line and the answer are written into a record. If the configuration has a board, it also serves a page that
+Each accepted command is written into a record before its answer leaves. If the configuration has a board, it also serves a page that
 follows the auction. docs/FRONT.md describes the configuration, the lines, the record and the log, and states the promises.
 
 On standard output it writes:

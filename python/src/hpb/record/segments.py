@@ -190,7 +190,7 @@ def file_behind(path: str) -> Behind:
 
 
 def head_line(place: Place, state: State, segment: int, behind: Behind) -> tuple[bytes, Place]:
-    """The first entry of the segment with this number, behind a state that is on the disk; and the place behind it."""
+    """The line of the first entry of the segment with this number, after a state that is on the disk; and the place behind that entry."""
     fields = {"form": FORM, "segment": segment, "behind": behind.fields(), "definition": state.definition, "state": state.head()}
     return entry_line(place, "begin", fields, synced=place.number)
 
