@@ -152,7 +152,7 @@ def test_a_bad_file_is_refused_and_the_old_one_stays(front: Front, what: str, wo
     elif what == "config":
         front.write_config(certificate="S", key="K", colour="red")
     elif what.startswith("pipe "):
-        # Nobody writes into it: who waited for that would wait for ever.
+        # Nobody writes into it: a reader that waited for data would wait for ever.
         (front.folder / what[-1]).unlink()
         os.mkfifo(front.folder / what[-1], 0o600)
     elif what == "limits":

@@ -15,13 +15,14 @@ RUDE = [
     b"SHOW", b"NODE a", b"BID y 1 b 150", b"CLOSE 1", b"STAGE 1", b"x" * 300, b"", b"TOKEN token-of-bob-number-1", b"WHO y", b"BID  w 1 c 100",
     b"BID w 1 c 100", b"BID w 2 d 200", b"WHO w", b"HELP",
 ]
-# So many moves a day has, and so many more at most until all is answered.
+# A day has so many moves, and at most so many more until all lines are answered.
 MOVES, MOST_MOVES = 600, 20_000
 
 
 @dataclass
 class Caller:
-    """One that does as docs/FRONT.md says: it sends the next line when the last is answered, and on a new connection once more."""
+    """A client that follows docs/FRONT.md: it sends the next line after the last one's answer, and sends a line again on a new
+    connection."""
 
     world: World
     name: str
@@ -43,7 +44,7 @@ class Caller:
         self.line = None
 
     def move(self) -> None:
-        """Connects, or sends something, if there is anything to be sent."""
+        """Connects, or sends its next line, if it has one."""
         if self.wire is None or self.world.wires.get(self.wire.number) is not self.wire or self.wire.has_ended:
             self.wire = self.world.connect(self, self.name)
             self.is_sent = False
@@ -69,7 +70,7 @@ class Caller:
 
 @dataclass
 class Rude:
-    """One that floods, sends what it may not, half lines and wrong tokens, reads nothing, and vanishes."""
+    """A client that follows no rules: it floods, sends forbidden lines, half lines and wrong tokens, reads nothing, and vanishes."""
 
     world: World
     wires: list[Wire] = field(default_factory=list)
@@ -97,8 +98,8 @@ class Rude:
 
 
 class Day:
-    """A world with its callers. `faults` are words of `wild`, and besides: on "slow" days lines have to wait by their rate; on days with
-    "hangs" the disk and the server do nothing any more once the front has to stop."""
+    """A world with its callers. `faults` are words of `wild`, and two more. On "slow" days lines have to wait for their name's rate. On
+    days with "hangs" the disk and the server stop working once the front has to stop."""
 
     def __init__(self, seed: int, faults: frozenset[str] = frozenset(), limits: Limits = LIMITS) -> None:
         source = random.Random(seed)
@@ -145,7 +146,7 @@ class Day:
         self.answer_by(b"ERR 93 failed")
 
     def answer_by(self, answer: bytes) -> None:
-        """A session is answered so in place of what it was to be answered; its line may be kept or not."""
+        """Replaces the answer of a session. Its command may be in the file all the same."""
         server = self.world.server
         if server.asked:
             session = self.world.source.choice(sorted(server.asked))
@@ -178,7 +179,7 @@ class Day:
         self.world.source.choices([move for move, _ in moves], [weight for _, weight in moves])[0]()
 
     def run(self, moves: int = MOVES) -> None:
-        """All of it: what goes wrong, then the rest of all lines, and the end."""
+        """Runs the whole day: first with faults, then without them until all lines are answered, and then to the end."""
         for _ in range(moves):
             self.move(self.wild())
         if "hangs" in self.faults:
@@ -194,7 +195,7 @@ class Day:
         self.end()
 
     def calm_down(self) -> None:
-        """Nothing goes wrong any more, and everybody has a token."""
+        """From here on nothing goes wrong, and everybody has a token."""
         self.world.kill_chance = 0.0
         for wire in self.rude.wires:
             self.world.hang_up(wire)
@@ -204,7 +205,7 @@ class Day:
                 self.world.reload(name, self.generation)
 
     def hang(self) -> None:
-        """It has to stop, and then nothing happens but that time passes, and callers come and go."""
+        """Stops the front. From then on only time passes, and callers come and go."""
         self.world.kill_chance = 0.0
         while not self.world.is_admitting:
             self.move(self.benign())
@@ -215,7 +216,7 @@ class Day:
             self.world.pass_time(self.world.source.choice([0.01, 0.3]))
 
     def end(self) -> None:
-        """It has to stop once it lets anybody in, and ends in order."""
+        """Stops the front once it lets clients in, and checks that it ends in order."""
         while not self.world.is_admitting:
             self.move(self.benign())
         count = len(self.world.ends)

@@ -1,4 +1,4 @@
-"""The promises of docs/FRONT.md, each by its sentence, and a watch that looks at every effect of a front whether it keeps them."""
+"""The promises of docs/FRONT.md, each by its sentence, and a watch that checks each effect of a front against them."""
 from __future__ import annotations
 
 import enum
@@ -9,7 +9,7 @@ from hpb.front.core import effects, events
 from hpb.front.core.effects import Effect
 from hpb.front.core.events import Event, Left
 
-# Of each kind of line: how many words it has, and who may send it. By hand, from the tables of docs/FRONT.md.
+# For each kind of line, how many words it has and who may send it. Written by hand, from the tables of docs/FRONT.md.
 WORDS = {"BID": 5, "WAIVE": 3, "CLOSE": 2, "STAGE": 2, "SHOW": 1, "NODE": 2, "WHO": 2}
 BIDDERS = {"ann": "x", "bob": "yz", "carl": "w", "desk": "xyzw", "public": ""}
 MAY = {"desk": "CLOSE STAGE SHOW NODE WHO", "public": "SHOW NODE"}
@@ -22,7 +22,7 @@ END_SECONDS = 10.0
 
 
 class Promise(enum.Enum):
-    """What a front promises."""
+    """The promises of a front."""
 
     OK_IS_KEPT = "Every OK that a client read is in the file and in the record, once, in the order of its number. It left after both were synced."
     NEXT_NUMBER = "An entry accepted is written for the next number alone, and one that is repeated has its entry already."
@@ -45,7 +45,7 @@ class Promise(enum.Enum):
 
 
 class Broken(AssertionError):
-    """A promise that isn't kept."""
+    """A promise is broken."""
 
     def __init__(self, promise: Promise, how: object) -> None:
         super().__init__(f"{promise.name}: {promise.value} {how}")
@@ -58,7 +58,7 @@ def require(is_kept: bool, promise: Promise, how: object = "") -> None:
 
 
 def refusal(name: str, line: bytes) -> bytes | None:
-    """What a front answers itself to a line of a name."""
+    """The front's own refusal of a line of a name, or None if the server gets the line."""
     if line == LONG:
         return b"ERR front long"
     words = line.decode("latin-1").split(" ")
@@ -92,7 +92,7 @@ class Promises(Watch):
     def forget(self) -> None:
         self.told: dict[int, bytes] = {}
         self.outstanding: set[int] = set()
-        # All connections of this front; lines of those that vanished, which were told or dropped.
+        # All connections of this front; the lines of vanished connections, which may have been sent to the server or dropped.
         self.wires: list[Wire] = []
         self.uncertain: set[bytes] = set()
         self.came: dict[str, deque[tuple[Wire, bytes]]] = {name: deque() for name in ROLES}
@@ -113,7 +113,7 @@ class Promises(Watch):
                 self.take(world, world.wires[number], LONG)
             case events.Answered(session, answer):
                 self.outstanding.discard(session)
-                # By 93 or 95 nothing is answered.
+                # An answer 93 or 95 goes to no client.
                 if answer[:6] not in HANDED_TO_NOBODY:
                     self.given.setdefault(self.told.pop(session), set()).add(answer)
             case events.Opened(number):
@@ -210,12 +210,13 @@ class Promises(Watch):
         require(not all(wire.is_barred for wire in senders), Promise.REVOKED, line)
         if is_command(line):
             require(Left(name, line) in world.disk.beside.values(), Promise.BESIDE_FIRST, line)
-        # Lines that wait by their rate come to their turn some time later.
+        # A line that waits for its name's rate has its turn some time later.
         if world.limits.lines_per_second == LIMITS.lines_per_second:
             self.look_at_turn(world, self.came[name], line)
 
     def look_at_turn(self, world: World, came: deque[tuple[Wire, bytes]], line: bytes) -> None:
-        """No other line of the name had its turn before this one. Lines of a connection that is gone, or whose token went, have none."""
+        """Checks that no earlier line of the name was passed over. Lines of connections that ended, or whose token was removed, don't
+        count."""
         while came:
             wire, other = came.popleft()
             is_gone = world.wires.get(wire.number) is not wire
@@ -232,15 +233,15 @@ class Promises(Watch):
         require(answer == f"OK {before + 1}" and kept(world)[before : before + 1] == [pair], Promise.NEXT_NUMBER, (pair, before))
 
     def at_the_end(self, world: World) -> None:
-        """A day that went well to its end."""
+        """Checks the record at the end of a day that ended well."""
         require(world.disk.accepted() == kept(world), Promise.NOTHING_LOST, (world.disk.accepted(), kept(world)))
 
 
 def answers_of(wire: Wire) -> list[bytes]:
-    """What a connection was answered to its lines behind the first."""
+    """The answers that a connection got to its lines after the token."""
     return [line for line in wire.heard if line not in GOODBYES and not line.startswith(b"WELCOME ")]
 
 
 def kept(world: World) -> list[tuple[str, str]]:
-    """What the file has, as the record should have it."""
+    """The commands of the file, as the record should have them."""
     return [(line, f"OK {number}") for number, line in enumerate(world.server.file, 1)]

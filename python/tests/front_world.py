@@ -1,7 +1,7 @@
-"""A world round the core of a front: a disk, a server that judges by the package's rules, a network and callers, moved on by a seed.
+"""A world round the core of a front, moved on by a seed: a disk, a server that judges by the package's rules, a network, and callers.
 
-The front may be killed between any two effects. Then its core is thrown away, the disk keeps all synced entries and some of the others, and
-a new core goes on. Plain lists have all that a promise is about, and `front_promises` looks at them.
+The front may be killed between any two effects. Then its core is thrown away. The disk keeps all synced entries and some of the others, and
+a new core starts. Plain lists hold everything that the promises are about, and `front_promises` checks them.
 """
 from __future__ import annotations
 
@@ -33,7 +33,7 @@ DAY_SECONDS = 86_400
 
 
 def tokens_of(names: dict[str, int]) -> Tokens:
-    """Each name's token, of this generation; 0 for none."""
+    """The tokens of the names. Each number is a generation of the name's token; 0 is for no token."""
     return Tokens("".join(f"{name} {token(name, number).decode() if number else '-'}\n" for name, number in names.items()), ROLES)
 
 
@@ -43,7 +43,7 @@ def token(name: str, number: int) -> bytes:
 
 @dataclass
 class Disk:
-    """Entries and commands beside the record: those that are synced, and those that are written and may be lost."""
+    """The record and the file beside it: parts that are synced, and parts that are written and may be lost."""
 
     entries: list[Entry] = field(default_factory=list)
     writes: list[effects.Write] = field(default_factory=list)
@@ -56,7 +56,7 @@ class Disk:
         del self.writes[:count]
 
     def sync_beside(self) -> Event | None:
-        """All that is to be put there is; the event that says so."""
+        """Syncs everything written beside the record, and returns the event that says so."""
         puts, self.puts = self.puts, []
         for put in puts:
             self.put(put)
@@ -74,7 +74,7 @@ class Disk:
             self.beside.clear()
 
     def crash(self, source: random.Random) -> None:
-        """Writes that aren't synced may be there or not: of entries the first ones, of places each by itself."""
+        """Each write before its sync may be there or not. Of the entries, the first ones are; the places are independent."""
         self.sync(source.randint(0, len(self.writes)))
         self.writes = []
         for put in self.puts:
@@ -99,7 +99,8 @@ class Disk:
 
 @dataclass
 class Server:
-    """`file` has the commands that are durable, in their order. A line is judged some time after it comes, and answered some time later."""
+    """A server. `file` has the durable commands, in their order. A line is judged some time after it comes, and answered some time after
+    that."""
 
     auction: Auction = field(default_factory=lambda: begin(read_definition(DEFINITION)))
     file: list[str] = field(default_factory=list)
@@ -118,28 +119,28 @@ class Server:
         self.answers[session] = self.judge(self.asked.pop(session))
 
     def die(self, source: random.Random) -> None:
-        """It may have judged any line that it had, and nobody hears of it."""
+        """Ends the server. It may have judged any line that it had, but answers none."""
         for session in source.sample(sorted(self.asked), len(self.asked)):
             if source.random() < 0.5:
                 self.judge_one(session)
         self.asked, self.answers = {}, {}
 
     def ticket(self, sender: str | None) -> int:
-        """The last that it has of a bidder; of the auctioneer for None."""
+        """The last ticket of a bidder, or of the auctioneer for None."""
         if sender is None:
             return sum(line.startswith(("CLOSE ", "STAGE ")) for line in self.file)
         return sum(line.split(" ")[1] == sender for line in self.file if line.startswith(("BID ", "WAIVE ")))
 
 
 class Listener(Protocol):
-    """Whoever hears what a connection is answered."""
+    """Gets the answers to a connection."""
 
     def hear(self, wire: Wire, line: bytes) -> None: ...
 
 
 @dataclass
 class Wire:
-    """A connection as the network has it: what the client has sent, and what the front has taken and answered."""
+    """A connection in the network: the lines that the client has sent, those that the front has taken, and the answers."""
 
     number: int
     caller: Listener
@@ -148,7 +149,7 @@ class Wire:
     is_open: bool = False
     token: bytes = b""
     name: str = ""
-    # Nothing more comes of it; the front has told it to go; its token went.
+    # Whether the client has ended it; whether the front has; and whether its token was removed.
     has_ended: bool = False
     is_closed: bool = False
     is_barred: bool = False
@@ -158,7 +159,7 @@ class Wire:
 
 @dataclass
 class World:
-    """The whole of it. `watch` looks at each effect before it is done, and at each event."""
+    """The whole world. `watch` checks each event, and each effect before it is done."""
 
     source: random.Random
     watch: Watch
@@ -173,10 +174,10 @@ class World:
     timers: list[tuple[float, int]] = field(default_factory=list)
     tokens: dict[str, int] = field(default_factory=lambda: dict.fromkeys(ROLES, 1))
     numbers: Iterator[int] = field(default_factory=lambda: iter(range(1, 1_000_000)))
-    # What the page asks and has no answer yet; whether it comes up.
+    # The page's questions without an answer, and whether the page is being started.
     asked: list[int] = field(default_factory=list)
     is_board_begun: bool = False
-    # Seconds that have passed, whatever the clock did.
+    # The seconds that have passed, even if the clock was set.
     passed: float = 0.0
     said: list[str] = field(default_factory=list)
     published: list[str] = field(default_factory=list)
@@ -193,7 +194,7 @@ class World:
         self.post(self.disk.opened())
 
     def kill(self) -> None:
-        """The server ends with it, and so does each connection."""
+        """The server and all connections end with it."""
         self.front = None
         self.disk.crash(self.source)
         self.server.die(self.source)
@@ -274,7 +275,7 @@ class World:
             self.server.die(self.source)
             self.server.state = "lost"
 
-    # What may happen next. Each gives whether it did.
+    # Moves of the world.
 
     def connect(self, caller: Listener, network: str) -> Wire | None:
         if not self.is_admitting or self.front is None:
@@ -291,7 +292,7 @@ class World:
             self.leaving.append((wire.number, "lost"))
 
     def move_wires(self) -> None:
-        """One connection opens, hands in a line, or is gone."""
+        """A connection opens, hands in a line, or ends."""
         if self.leaving and self.source.random() < 0.5:
             number, why = self.leaving.pop(self.source.randrange(len(self.leaving)))
             if self.wires.pop(number, None):
@@ -315,7 +316,7 @@ class World:
             self.post(events.Line(wire.number, line))
 
     def move_server(self) -> None:
-        """It comes up, judges, answers, or has gone."""
+        """The server comes up, judges a line, answers one, or is gone."""
         server = self.server
         if server.state == "starting":
             self.come_up()
@@ -340,7 +341,7 @@ class World:
             self.post(events.ServerUp())
 
     def move_disk(self) -> None:
-        """Some entries, or all that is beside the record, come to the disk."""
+        """Syncs some entries, or everything beside the record."""
         if self.disk.writes and (not self.disk.puts or self.source.random() < 0.5):
             count = self.source.randint(1, len(self.disk.writes))
             self.disk.sync(count)
@@ -349,7 +350,7 @@ class World:
             self.post(event)
 
     def move_board(self) -> None:
-        """It comes up, or asks."""
+        """The page comes up, or asks a question."""
         if self.is_board_begun:
             self.is_board_begun = False
             self.post(events.BoardUp("BOARD http://127.0.0.1/"))
@@ -367,22 +368,22 @@ class World:
         self.post(events.Tick())
 
     def reload(self, name: str, number: int) -> None:
-        """A name has another token, or none."""
+        """Gives a name another token, or none, and reloads."""
         self.tokens = {**self.tokens, name: number}
         self.post(events.Reloaded(self.limits, tokens_of(self.tokens)))
 
 
 class Watch:
-    """Whoever looks at a world."""
+    """Watches a world."""
 
     def started(self, world: World) -> None:
-        """A front begins."""
+        """Called when a front starts."""
 
     def event(self, world: World, event: Event) -> None:
-        """Before it is taken."""
+        """Called before an event is taken."""
 
     def stepped(self, before: Front, event: Event, clock: float, outcome: tuple[Front, list[Effect]]) -> None:
-        """Behind the step of an event, before any effect."""
+        """Called after an event's step, before any of its effects."""
 
     def effect(self, world: World, effect: Effect) -> None:
-        """Before it is done."""
+        """Called before an effect is done."""

@@ -36,7 +36,9 @@ def pair_at_a_cut() -> bytes:
     """A package of two licences across the end of a part of four rows: neither part has room for its texts."""
     under = {"w": None, "l0": "w", "l1": "w", "l2": "w", "p": "w", "l3": "p", "l4": "p", "l5": "w", "l6": "w"}
     terms = {"units": 1, "opening": 100}
-    nodes = [{"name": name, "parent": parent, **(terms if name[0] == "l" else {})} for name, parent in under.items()]
+    nodes: list[dict[str, object]] = [
+        {"name": name, "parent": parent, **(terms if name[0] == "l" else {})} for name, parent in under.items()
+    ]
     return json.dumps({"step": 10, "percent": 10, "stages": [80], "nodes": nodes, "bidders": [{"name": "x", "units": 7}]}).encode()
 
 

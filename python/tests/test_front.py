@@ -53,14 +53,14 @@ class Front:
         return [str(TOP / "tools" / "front"), "--config", str(self.folder / "front.toml")]
 
     def start(self) -> None:
-        """Starts it; from then on it takes connections."""
+        """Starts it, and waits until it takes connections."""
         self.process = subprocess.Popen(self.words, stdout=subprocess.PIPE, stderr=subprocess.DEVNULL, cwd=self.folder)
         assert self.process.stdout
         line = self.process.stdout.readline()
         assert line.startswith(b"LISTENING "), line
 
     def stop(self, how: signal.Signals = signal.SIGTERM) -> None:
-        """Ends it, and waits for that."""
+        """Ends it, and waits until it has ended."""
         if self.process:
             self.process.send_signal(how)
             self.process.wait(60)
@@ -91,7 +91,7 @@ def front(room: pathlib.Path, program: Program, new_file: bytes) -> Iterator[Fro
 
 
 def rounds(count: int) -> list[Bid]:
-    """Bids of bob, each of which is accepted once in its turn; all in one round."""
+    """Bids of bob in one round, each accepted once and in its turn."""
     bids = [Bid("z", node, 1000) for node in ("all", "east", "a", "b", "c")] + [Bid("y", "b", 900), Bid("w", "c", 800), Bid("w", "d", 700)]
     return bids[:count]
 
@@ -170,7 +170,7 @@ def test_a_kill_of_the_front_loses_and_doubles_no_command(front: Front, is_async
 
 
 def wait_for_the_file(file: pathlib.Path) -> None:
-    """Until the server of a front that was killed has left it."""
+    """Waits until the killed front's server has let the file go."""
     end = time.monotonic() + 30
     while time.monotonic() < end:
         descriptor = os.open(file, os.O_RDONLY)

@@ -17,7 +17,7 @@ from hpb.front.core.events import Event
 
 ALL = "kills losses disks reloads jumps stops vanishing"
 SEEDS, MORE_SEEDS = 10, 100
-# Modules without a clock, a socket, a file, a thread or a task.
+# The core's modules: none may use a clock, a socket, a file, a thread or a task.
 PURE = {"collections", "dataclasses", "enum", "hpb", "re", "typing"}
 
 
@@ -35,7 +35,7 @@ def test_each_promise_is_kept_on_many_days(faults: str) -> None:
 
 
 class Values(Promises):
-    """Looks besides whether a step changes the value that it was given, and gives the same when it is taken again."""
+    """Checks in addition that no step changes the value that it was given, and that the same step gives the same value again."""
 
     def __init__(self) -> None:
         super().__init__()

@@ -1,4 +1,4 @@
-"""Bugs that are planted in the core of a front: each is caught by the promise that it breaks, so the days of `test_front_core` can fail."""
+"""Bugs planted in the core of a front. Each is caught by the promise that it breaks, so the days of `test_front_core` can fail."""
 from __future__ import annotations
 
 from collections.abc import Callable
@@ -76,7 +76,7 @@ def left_line_told_anew(patch: pytest.MonkeyPatch) -> None:
 
 
 def revoked_token_answered(patch: pytest.MonkeyPatch) -> None:
-    """Tokens that are read again hold for whoever comes from then on."""
+    """New tokens only count for connections that come after the reload."""
     patch.setattr(clients, "reload", lambda step, event: step.set(limits=event.limits, tokens=event.tokens))
 
 
@@ -92,13 +92,13 @@ def stop_waits_for_ever(patch: pytest.MonkeyPatch) -> None:
 
 
 def rights_not_looked_at(patch: pytest.MonkeyPatch) -> None:
-    """Everybody may send every line that is one."""
+    """Every name may send every valid line."""
     refusal = Role.refusal
     patch.setattr(Role, "refusal", lambda self, line: (found := refusal(self, line)) and (found if found != "rights" else None))
 
 
 def last_connection_first(patch: pytest.MonkeyPatch) -> None:
-    """Of the connections of a name the last that sends something has the first turn."""
+    """Among the connections of a name, the last one that sends something has the first turn."""
 
     def backwards(step: Step, item: Item) -> None:
         queue(step, item)

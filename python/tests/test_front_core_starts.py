@@ -1,4 +1,4 @@
-"""How a front's core starts and ends: the commands that it finds, when it lets nobody in, and the last line that it waits for."""
+"""How a front's core starts and ends: which commands it finds, when it lets nobody in, and which lines it waits for at the end."""
 from __future__ import annotations
 
 import random
@@ -17,7 +17,7 @@ ACCEPTED: list[Entry] = [{"kind": "accepted", "name": "ann", "line": "BID x 1 a 
 
 
 def world_of(file: list[str], entries: list[Entry], *left: Left) -> World:
-    """A world whose file and record have these commands, and these beside."""
+    """A world with these commands in its file, in its record, and beside the record."""
     world = World(random.Random(1), Watch())
     for line in file:
         world.server.judge(line.encode())
@@ -28,7 +28,7 @@ def world_of(file: list[str], entries: list[Entry], *left: Left) -> World:
 
 
 def started(world: World, moves: int = 2000) -> World:
-    """Once it lets anybody in, or has ended."""
+    """Runs the world until the front lets clients in, or has ended."""
     world.start()
     for _ in range(moves):
         if world.is_admitting or world.front is None:
@@ -39,7 +39,7 @@ def started(world: World, moves: int = 2000) -> World:
 
 
 def entries(world: World) -> list[tuple[str, str]]:
-    """Kind and line of each entry behind those that were there."""
+    """The kind and the line of each entry, except entries of kind `started`."""
     return [(entry["kind"], entry.get("line", "")) for entry in world.disk.entries if entry["kind"] != "started"]
 
 
@@ -72,7 +72,7 @@ def test_a_file_and_a_record_that_dont_go_together_let_nobody_in_and_nothing_is_
 
 
 def test_a_left_line_of_the_first_form_gets_the_entry_that_answers_it() -> None:
-    """The file has another command under its ticket: what the line was answered is known, and it is in no file."""
+    """The file has another command with its ticket. So the line's answer is known, and the line is in no file."""
     asked: Entry = {"kind": "asked", "name": "ann", "line": "BID x 1 b 100"}
     world = started(world_of(["BID x 1 a 100"], [*ACCEPTED, asked]))
     answered = [entry for entry in world.disk.entries if entry["kind"] == "answered"]
@@ -80,12 +80,12 @@ def test_a_left_line_of_the_first_form_gets_the_entry_that_answers_it() -> None:
 
 
 def running() -> World:
-    """One that lets clients in, behind one command."""
+    """A world whose front lets clients in, with one command in its record."""
     return started(world_of(["BID x 1 a 100"], ACCEPTED))
 
 
 def back(world: World) -> World:
-    """Its server was lost, and comes again."""
+    """Loses the server, and lets it come up again."""
     world.lose_server()
     for _ in range(3):
         world.move_server()
@@ -144,14 +144,14 @@ def test_a_stop_before_anybody_is_let_in_ends_at_once_and_says_so(moves: int) ->
 
 
 class Deaf:
-    """A client that hears nothing."""
+    """A client that ignores its answers."""
 
     def hear(self, wire: Wire, line: bytes) -> None:
         pass
 
 
 def asking() -> tuple[World, Wire]:
-    """A world whose server has a bid that isn't judged, and the connection that sent it."""
+    """A world whose server hasn't judged a bid yet, and the connection that sent the bid."""
     world = running()
     wire = world.connect(Deaf(), "1")
     assert wire
@@ -163,7 +163,7 @@ def asking() -> tuple[World, Wire]:
 
 
 def ended(world: World) -> World:
-    """Once it is told to stop, and has ended."""
+    """Stops the front, and gives the world after its end."""
     world.post(events.Stop())
     for _ in range(1000):
         if world.front is None:
@@ -175,7 +175,7 @@ def ended(world: World) -> World:
 
 @pytest.mark.parametrize("vanishes", [False, True])
 def test_a_command_that_the_server_has_is_waited_for_at_the_end(vanishes: bool) -> None:
-    """Also if its client has vanished: else the file would have a command more than the record."""
+    """Even if its client has vanished: else the file would have one command more than the record."""
     world, wire = asking()
     if vanishes:
         world.hang_up(wire)
@@ -210,7 +210,7 @@ def test_a_number_waits_for_smaller_ones_that_may_still_come() -> None:
 
 
 def test_a_number_that_is_nobody_s_is_foreign() -> None:
-    """Once every command that was told before it is answered otherwise."""
+    """It is known to be foreign once each command that was sent before it has got another answer."""
     ledger, one = Ledger(count=2).took_place()
     told = ledger.tell(one)
     waiting = held(told, 5, 1)

@@ -26,7 +26,7 @@ SECONDS = 10
 
 @dataclass
 class Carrier:
-    """What a connection writes to, in memory."""
+    """A transport in memory."""
 
     written: bytes = b""
     is_reading: bool = True
@@ -53,7 +53,7 @@ class Carrier:
 
 @pytest.fixture
 def connection() -> Connection:
-    """One that is open, and whose events are in `posted`."""
+    """An open connection, whose events go to `posted`."""
     posted: list[Event] = []
     made = Connection(1, posted.append, lambda number: None, is_tls=False)
     made.connection_made(Carrier())
@@ -62,7 +62,7 @@ def connection() -> Connection:
 
 
 def posted(connection: Connection) -> list[Event]:
-    """What it has posted since it was asked last."""
+    """The events that were posted since the last call."""
     found: list[Event] = list(connection.posted)  # type: ignore[attr-defined]
     connection.posted.clear()  # type: ignore[attr-defined]
     return found
@@ -132,7 +132,7 @@ def test_one_that_is_gone_says_how_and_nothing_is_written_to_it(connection: Conn
 
 @dataclass
 class SlowRecord:
-    """A record in memory, whose writes wait until they may be done, and fail by `fault`."""
+    """A record in memory. Its writes wait until the test allows them, and fail if there is a `fault`."""
 
     place: Place = Place()
     state: State = field(default_factory=State)
@@ -222,7 +222,7 @@ def test_a_record_that_fails_is_told_once_and_nothing_more_is_written(fault: Exc
     asyncio.run(talk())
 
 
-# The server, and what runs all of it.
+# The server, and the whole front.
 
 
 def test_a_session_hands_in_whole_lines_and_says_that_it_is_lost() -> None:

@@ -1,4 +1,5 @@
 """Views of some bidders have them alone, and the page's colours can be read."""
+import math
 import pathlib
 import re
 
@@ -41,7 +42,7 @@ GROUNDS = {
 
 def light(colour: str) -> float:
     parts = [int(colour[at : at + 2], 16) / 255 for at in (1, 3, 5)]
-    red, green, blue = (part / 12.92 if part <= 0.04045 else ((part + 0.055) / 1.055) ** 2.4 for part in parts)
+    red, green, blue = (part / 12.92 if part <= 0.04045 else math.pow((part + 0.055) / 1.055, 2.4) for part in parts)
     return 0.2126 * red + 0.7152 * green + 0.0722 * blue
 
 

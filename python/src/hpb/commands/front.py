@@ -4,18 +4,28 @@
     tools/front --config front.toml                   serves until SIGTERM, or until the auction is over
     tools/front --config front.toml tokens list       the ids of all tokens; `add NAME` and `revoke ID` change them
 
-It starts `hpb serve` in a network of its own, keeps it running, takes any number of connections, over TLS if there is a certificate, and
-writes each line with its answer into a record before the answer leaves. If the configuration has a board it serves a page that follows
-the auction, too. docs/FRONT.md has the configuration, the lines, the record, the log, and what is promised. It writes
-`LISTENING address port` once it can be connected to, `BOARD` and the address of the page, a line with the record's hash after each close,
-and `STOPPED n` at the end, n being how many commands are accepted in all. SIGHUP makes it read tokens, certificate and limits again.
+It starts `hpb serve` in a network of its own and keeps it running. It takes any number of connections, over TLS if there is a certificate.
+Each accepted command is written into a record before its answer leaves. If the configuration has a board, it also serves a page that
+follows the auction. docs/FRONT.md describes the configuration, the lines, the record and the log, and states the promises.
 
-It ends with 0 when it was told to stop or the auction is over, with 1 when it can't go on, and with 2 when its words or its
-configuration are wrong. Needs Python 3.11 and Linux.
+On standard output it writes:
+
+- `LISTENING address port`, once clients can connect;
+- `BOARD` and the address of the page, if there is one;
+- a line with the record's hash after each close;
+- `STOPPED n` at the end: n commands are accepted in all.
+
+SIGHUP makes it read tokens, certificate and limits again. The status is:
+
+- 0, after a signal to stop, or when the auction is over;
+- 1, if it can't go on;
+- 2, if its arguments or its configuration are wrong.
+
+Needs Python 3.11 and Linux.
 """
 import signal
 
-# One that comes before the front can take it waits, from here on.
+# From here on, a signal waits until the front can take it.
 signal.pthread_sigmask(signal.SIG_BLOCK, {signal.SIGHUP})
 import argparse
 import asyncio
@@ -41,7 +51,7 @@ LOG_SECONDS = 0.5
 
 
 def serve(given: argparse.Namespace, teller: Teller) -> None:
-    """Takes what it needs of the machine's network, leaves it, and lets bidders in."""
+    """Takes its sockets in the machine's network, leaves that network, and serves."""
     config, terms = read_terms(given.config)
     tree = config.tree()
     for bidder in config.silent_bidders(tree):
@@ -64,12 +74,12 @@ def serve(given: argparse.Namespace, teller: Teller) -> None:
 
 
 async def run(config: Config, terms: Terms, tree: Tree, sockets: list[socket.socket], shell: Shell) -> None:
-    """Until its end; within the loop that it runs in."""
+    """Runs the front until its end, in its event loop."""
     await Running(config, terms, tree, sockets, shell).run()
 
 
 def do(given: argparse.Namespace, teller: Teller) -> None:
-    """What the words ask for."""
+    """Does what the arguments ask for."""
     if given.make_tokens or given.command:
         free_signals()
     if given.make_tokens:
@@ -81,7 +91,7 @@ def do(given: argparse.Namespace, teller: Teller) -> None:
 
 
 def main() -> int:
-    """The status that the process ends with."""
+    """Runs the command, and returns the status for the process to end with."""
     hold_closed_streams()
     if streams_lead_astray(sys.argv[1:]):
         return 2
@@ -102,10 +112,10 @@ def main() -> int:
 
 
 def main_and_exit() -> NoReturn:
-    """A thread that hangs in a call to the system isn't waited for."""
+    """A thread may hang in a call to the system: it isn't waited for."""
     try:
         status = main()
-    except SystemExit as ended:  # Help, or wrong words.
+    except SystemExit as ended:  # After the help, or after wrong arguments.
         status = ended.code if isinstance(ended.code, int) else 0
     except BaseException:  # As above.
         end_at_once()

@@ -41,7 +41,7 @@ _PICTURE = b"<svg"
 
 
 class _WritesNot(Exception):
-    """What is written would take the place of something else."""
+    """The output would take the place of something else."""
 
 
 @from_shell
@@ -81,8 +81,8 @@ def _read_words() -> argparse.Namespace:
 
 
 def _look_at_places(svg: str | None) -> None:
-    """Where output and picture go. A `_WritesNot` says that output leads into one of the files, or that the picture's name is another
-    file's."""
+    """Checks that neither the output nor the picture replaces another file. A `_WritesNot` says that standard output leads into one of the
+    files, or that a file that isn't a picture has the picture's name."""
     if name := output_leads_to():
         raise _WritesNot(f"standard output leads to {name}: lead it elsewhere")
     if svg is None or not os.path.isfile(svg):

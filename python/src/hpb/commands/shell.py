@@ -1,6 +1,6 @@
-"""What a command finds in the shell that started it: standard streams that are closed, that fail, or that lead into a file it is given.
+"""Standard streams that a command can use, even if they are closed, fail, or lead into a file that the command is given.
 
-What a command says is never written into an auction's file or a record, nor in the place of an answer.
+Messages never go into an auction's file or a record, nor among the answers.
 """
 import contextlib
 import functools
@@ -16,16 +16,16 @@ from hpb.commands import program_name
 from hpb.plain import plain
 from hpb.streams import STANDARD_ERROR, STANDARD_OUTPUT, hold_closed_streams, write_all
 
-# What stands beside a record, behind its name and a dot.
+# The endings of the files beside a record, after its name and a dot.
 _BESIDE = re.compile(r"asked|[1-9][0-9]*")
 _FAILED = 1
 
 
 def from_shell(main: Callable[[], int]) -> Callable[[], int]:
-    """A command's `main` with standard streams that can be used.
+    """Gives a command's `main` standard streams that can be used.
 
-    If standard error leads into a file that a word names nothing is said. If standard output can't be written that is said, and the status
-    isn't 0.
+    If standard error leads into a file that an argument names, nothing is written there. If standard output can't be written, a message
+    says so, and the status isn't 0.
     """
 
     @functools.wraps(main)
@@ -37,7 +37,7 @@ def from_shell(main: Callable[[], int]) -> Callable[[], int]:
             pass
         except _OutputFails as fault:
             say(f"standard output can't be written: {fault}")
-        # What it didn't take isn't tried again.
+        # What standard output didn't take isn't written again at the end.
         _lead_nowhere(STANDARD_OUTPUT)
         return _FAILED
 
@@ -45,7 +45,7 @@ def from_shell(main: Callable[[], int]) -> Callable[[], int]:
 
 
 def _ended(main: Callable[[], int]) -> int:
-    """The status, once standard output has all that was printed."""
+    """Runs `main`. Returns its status once everything that it printed is written."""
     try:
         status = main()
     except SystemExit as ended:  # Help, or wrong words.
@@ -55,11 +55,11 @@ def _ended(main: Callable[[], int]) -> int:
 
 
 class _OutputFails(Exception):
-    """Standard output can't be written, and the system's words for it."""
+    """Standard output can't be written. The text is the system's reason."""
 
 
 class _Output(io.RawIOBase):
-    """Standard output, which is waited for if it is set not to block."""
+    """Standard output. If it is set not to block, writing waits until it can go on."""
 
     def writable(self) -> bool:
         return True
@@ -81,18 +81,18 @@ class _Output(io.RawIOBase):
 
 
 def say(text: object) -> None:
-    """A line on standard error, behind the command's name. A stream that takes nothing is no reason to end."""
+    """Writes a line on standard error, after the command's name. If the stream fails, the command goes on."""
     with contextlib.suppress(OSError):
         write_all(STANDARD_ERROR, f"{program_name()}: {plain(text)}\n".encode())
 
 
 def output_leads_to() -> str:
-    """The file that standard output leads to, if a word names it or one that it stands beside; else an empty text."""
+    """The file into which standard output leads, if an argument names it or a file that it is kept beside. Else the text is empty."""
     return _named_by(STANDARD_OUTPUT)
 
 
 def _hold_streams() -> None:
-    """A closed stream stays closed: nothing gets its number, and nothing that was for it goes elsewhere."""
+    """Keeps closed streams closed: no file gets the number of one, so no output for it goes into a file."""
     hold_closed_streams()
     if _named_by(STANDARD_ERROR):
         _lead_nowhere(STANDARD_ERROR)
@@ -110,7 +110,7 @@ def _lead_nowhere(stream: int) -> None:
 
 
 def _named_by(stream: int) -> str:
-    """The file of the words that a stream leads to, or that stands beside one as a segment does; empty if there is none."""
+    """The file into which a stream leads, if an argument names it, or names the record that it stands beside. Else the text is empty."""
     found = os.fstat(stream)
     if not stat.S_ISREG(found.st_mode):
         return ""

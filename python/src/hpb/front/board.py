@@ -1,4 +1,4 @@
-"""The board of a front: a process that serves the page, and asks by a session of the front's own (docs/BOARD.md)."""
+"""The board of a front: keeps the process that serves the page, and asks the server for it by a session of its own (docs/BOARD.md)."""
 import asyncio
 import contextlib
 import itertools
@@ -20,14 +20,14 @@ from hpb.front.terms import Reload, Terms
 
 PROGRAM = "hpb.front.viewers"
 QUESTIONS = (b"SHOW", b"NODE", b"WHO")
-# One that has run for so many seconds has come up; else the next one waits, each time twice as long.
+# A process that has run for so many seconds has come up. If one ends before that, the next one waits, each time twice as long.
 STEADY, FIRST_PAUSE, MOST_PAUSE = 10, 1, 60
 PATIENCE = 30
 
 
 class Board:
-    """Keeps the process. What it asks doesn't stand in the record, since nobody sent it. `reloading` has the terms that are in force, and
-    `shown` those that the page was given."""
+    """Keeps the page's process running. The page's questions aren't in the record, since no client sent them. `reloading` has the terms in
+    force, and `shown` the terms that the page has."""
 
     def __init__(self, reloading: Reload, listener: socket.socket, post: Callable[[Event], None], begin: Begin, shell: Shell) -> None:
         self.config, self.reloading, self.listener, self.post, self.begin = reloading.config, reloading, listener, post, begin
@@ -44,15 +44,15 @@ class Board:
         self.begin(self.come_up())
 
     async def come_up(self) -> None:
-        """The first process. When it doesn't come up the front doesn't."""
+        """Starts the first process. If it doesn't come up, neither does the front."""
         self.post(BoardUp(await self.start()))
         self.is_kept = True
-        # Other terms may be in force since it was begun.
+        # The terms may have changed since it was started.
         self.change()
         await self.keep()
 
     async def start(self) -> str:
-        """Its line with the page's address, once the page can be opened."""
+        """Starts a process. Once the page can be opened, returns its line with the address."""
         mine, its = socket.socketpair()
         try:
             self.child = self.begun(its)
@@ -74,7 +74,7 @@ class Board:
         return line
 
     def begun(self, its: socket.socket) -> Child:
-        """Its process, which gets the terms in force."""
+        """Starts the page's process with the terms in force."""
         self.shown = self.reloading.terms
         given = in_memory(written(self.config, self.shown))
         try:
@@ -84,7 +84,7 @@ class Board:
             os.close(given)
 
     async def hear(self, child: Child) -> None:
-        """Requests at the page go into the log."""
+        """Puts requests for the page into the log."""
         while line := await child.next_line():
             try:
                 entry = json.loads(line)
@@ -93,7 +93,7 @@ class Board:
                 self.say("the board writes what is no line of a log")
 
     async def answer(self, connection: socket.socket) -> None:
-        """One question after the other, until its end is closed."""
+        """Answers the page's questions, one after the other, until it closes the connection."""
         try:
             reader, writer = await asyncio.open_connection(sock=connection)
         except BaseException:
@@ -109,7 +109,7 @@ class Board:
             writer.close()
 
     async def keep(self) -> None:
-        """Starts it again whenever it ends."""
+        """Starts the process again whenever it ends."""
         pause = FIRST_PAUSE
         while True:
             began = time.monotonic()
@@ -123,12 +123,12 @@ class Board:
                 self.say(f"the board is gone; it is started again in {pause} seconds")
                 self.log.write("restart", what="board", outcome="gone")
                 await asyncio.sleep(pause)
-            # If it doesn't come up it has said why; those who bid don't need it.
+            # A process that doesn't come up has said why. Bidders don't need the page, so the front goes on.
             with contextlib.suppress(Stops):
                 await self.start()
 
     async def ask(self, line: bytes) -> bytes:
-        """The answer to a question."""
+        """Asks the server a question, and returns its answer."""
         number, answer = next(self.numbers), asyncio.get_running_loop().create_future()
         self.asked[number] = answer
         self.post(BoardAsks(number, line))
@@ -136,19 +136,19 @@ class Board:
         return answered
 
     def take_answer(self, effect: AnswerBoard) -> None:
-        """Of a process that is gone nobody waits for it."""
+        """If the process that asked is gone, nobody waits for the answer."""
         answer = self.asked.pop(effect.number)
         if not answer.done():
             answer.set_result(effect.line)
 
     def change(self) -> None:
-        """If there are other tokens, limits or another certificate than it was given, it begins anew, and viewers connect again."""
+        """If tokens, limits or certificate differ from those that the page has, its process is started again, and viewers connect again."""
         if self.child and self.is_kept and self.shown is not self.reloading.terms:
             self.is_changed = True
             self.child.process.kill()
 
     async def stop(self) -> None:
-        """It is gone, if the system lets it."""
+        """Ends the process, if the system lets it end."""
         child, self.child = self.child, None
         for task in self.tasks:
             task.cancel()

@@ -13,7 +13,7 @@ from hpb.front.tokens import read_private
 from hpb.own_files import read_regular
 
 DAY_SECONDS = 86_400
-# So many days before its end that is told, and how often.
+# Warnings begin so many days before the certificate ends. Its end is looked at once in so many seconds.
 WARN_DAYS = 14
 LOOK_SECONDS = DAY_SECONDS
 BEGIN, END = "-----BEGIN CERTIFICATE-----", "-----END CERTIFICATE-----"
@@ -43,7 +43,7 @@ class Certificate:
 
     @classmethod
     def of(cls, chain: bytes, key: bytes) -> "Certificate":
-        """That of texts of PEM. An OSError or a ValueError says what is wrong with them."""
+        """Takes the texts of the PEM files. If they can't be used, an OSError or a ValueError says why."""
         context = ssl.SSLContext(ssl.PROTOCOL_TLS_SERVER)
         context.minimum_version = ssl.TLSVersion.TLSv1_2
         with path_of(chain) as chain_path, path_of(key) as key_path:
@@ -51,7 +51,7 @@ class Certificate:
         return cls(context, end_of(chain.decode("ascii", errors="replace")), chain, key)
 
     def says(self, now: float) -> str:
-        """What an operator has to know at this time; empty where that is nothing."""
+        """A warning for the operator at this time, or an empty text if there is nothing to warn about."""
         when = time.strftime("%Y-%m-%d %H:%M:%S UTC", time.gmtime(self.ends))
         if now >= self.ends:
             return f"error: the certificate ended at {when}: clients refuse it. Put a new one in its place, and send SIGHUP"
@@ -73,7 +73,7 @@ def path_of(data: bytes) -> Iterator[str]:
 
 
 def no_password() -> str:
-    """Nobody is there to be asked for one."""
+    """OpenSSL asks for a password if the key has one: nobody is there to type it."""
     raise ValueError("the key has a password: write it without one")
 
 
@@ -89,7 +89,7 @@ def end_of(text: str) -> float:
 
 
 def end_in(data: bytes) -> float:
-    """By RFC 5280: within the certificate, within what is signed, behind version, serial number, algorithm and issuer."""
+    """Its place follows from RFC 5280: in the certificate's signed part, after version, serial number, algorithm and issuer."""
     signed = values_of(values_of(data)[0][1])[0][1]
     fields = values_of(signed)
     place = 4 if fields[0][0] == VERSION else 3

@@ -13,23 +13,23 @@ from dataclasses import dataclass
 
 from hpb.own_files import MODE, give_name, open_own
 
-# How long another change may take.
+# So many seconds another program's change may take.
 WAIT_SECONDS = 10.0
 PAUSE = 0.02
 MOST_REST = 10_000_000
 
 
 class Busy(Exception):
-    """Another program changes the file, and doesn't come to an end."""
+    """Another program is changing the file, and doesn't finish."""
 
 
 class InTheWay(Exception):
-    """The new file's name is another file's."""
+    """Another file has the name that the new file needs."""
 
 
 @dataclass(frozen=True)
 class NewFile:
-    """A file that isn't in its place yet."""
+    """The new file, before it has its place."""
 
     path: str
     file: int
@@ -39,7 +39,7 @@ class NewFile:
         return name_of_new(self.path)
 
     def write(self, text: str, owner: os.stat_result | None = None) -> None:
-        """Returns once all is on the disk. An owner is that of the file before."""
+        """Writes the text, and returns once it is on the disk. If `owner` is given, the new file gets that file's owner and group."""
         data = text.encode()
         while data:
             data = data[os.write(self.file, data) :]
@@ -48,12 +48,12 @@ class NewFile:
         os.fsync(self.file)
 
     def take_place(self) -> None:
-        """The old file goes."""
+        """Takes the place of the old file."""
         os.replace(self.new, self.path)
         sync_folder(self.path)
 
     def take_free_place(self) -> None:
-        """FileExistsError if there is a file."""
+        """Takes the place if it is free. A FileExistsError says that there is a file."""
         give_name(self.new, self.path)
         sync_folder(self.path)
 
@@ -64,8 +64,9 @@ def name_of_new(path: str) -> str:
 
 @contextlib.contextmanager
 def changing(path: str, is_rest: Callable[[bytes], bool], seconds: float = WAIT_SECONDS) -> Iterator[NewFile]:
-    """The new file of a change that nobody else makes meanwhile. What stands in its place without a lock goes if it is a rest. A Busy or an
-    InTheWay says why there is none; and if the change fails nothing is left of it."""
+    """Gives the new file of a change, and lets nobody else change the file meanwhile. If a killed program left a new file without a lock,
+    and `is_rest` knows it, that goes first. A Busy or an InTheWay says why no change is possible. If the change fails, no new file is
+    left."""
     new, end = name_of_new(path), time.monotonic() + seconds
     while (file := made(new)) is None:
         remove_rest(new, path, is_rest)
@@ -81,12 +82,12 @@ def changing(path: str, is_rest: Callable[[bytes], bool], seconds: float = WAIT_
 
 
 def made(new: str) -> int | None:
-    """A new file that is locked, or nothing if there is one."""
+    """Makes the new file and locks it. Returns nothing if there is such a file already."""
     try:
         file = os.open(new, os.O_WRONLY | os.O_CREAT | os.O_EXCL | os.O_CLOEXEC, MODE)
     except FileExistsError:
         return None
-    # Before it is locked another program may take it for a rest.
+    # Until it is locked, another program may think that a killed one left it, and remove it.
     if locks(file) and is_at(file, new):
         return file
     os.close(file)
@@ -94,7 +95,7 @@ def made(new: str) -> int | None:
 
 
 def remove_rest(new: str, path: str, is_rest: Callable[[bytes], bool]) -> None:
-    """Takes away what a program left that was killed. Does nothing while another one is at work."""
+    """Removes the new file of a killed program. Does nothing while another program works on it."""
     try:
         file = open_own(new, os.O_RDONLY, may_make=False)
     except FileNotFoundError:

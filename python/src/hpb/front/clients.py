@@ -16,21 +16,21 @@ from hpb.front.terms import Terms
 from hpb.front.tls import Handshakes, Tls
 
 NO_DESCRIPTORS_PAUSE = 0.1
-# How long a connection that has to go may take to read its last line.
+# A connection that is ending has so many seconds to read its last line.
 LEAVE_SECONDS = 2
-# A system that misses a connection's other end asks after this many silent seconds, so often and so many times.
+# After so many silent seconds the system checks that the other end is still there: how often, in seconds, and how many times.
 KEEPALIVE = {socket.TCP_KEEPIDLE: 30, socket.TCP_KEEPINTVL: 10, socket.TCP_KEEPCNT: 3}
 NETWORK_BITS = 64
 # So many addresses are remembered.
 MOST_ADDRESSES = 10_000
-# Why a connection ends at once that hasn't said anything: its address begins TLS too often.
+# The reason for refusing a connection before its first line: its address begins too many TLS handshakes.
 HANDSHAKES = "handshakes"
 
 Post = Callable[[Event], None]
 
 
 class Carrier(Protocol):
-    """What a connection writes to: a transport, or TLS over one."""
+    """The transport of a connection, or TLS over one."""
 
     def write(self, data: bytes) -> None: ...
     def is_closing(self) -> bool: ...
@@ -41,19 +41,19 @@ class Carrier(Protocol):
 
 
 class Connection(asyncio.Protocol):
-    """One connection. It hands in one line whenever it may, and reads no more until then."""
+    """One connection. Each time the front allows it, it hands in one line; it reads no more until then."""
 
     def __init__(self, number: int, post: Post, forget: Callable[[int], None], is_tls: bool) -> None:
         self.number, self.post, self.forget, self.is_tls = number, post, forget, is_tls
-        # What carries it, as soon as it can be written to; below that, what can end it before.
+        # The carrier, once it can be written to; and the transport below it, which can be aborted before.
         self.transport: Carrier | None = None
         self.below: asyncio.BaseTransport | None = None
-        # Bytes that weren't handed in yet; how long a line may be, 0 as long as none may come.
+        # The bytes that aren't handed in yet; and the most bytes of the next line, 0 as long as none is allowed.
         self.rest, self.most = bytearray(), 0
         self.has_ended = self.is_full = self.is_leaving = False
         self.why = ""
 
-    # As the protocol of what carries it.
+    # Calls of the carrier.
 
     def connection_made(self, transport: Carrier) -> None:  # type: ignore[override]
         self.transport = transport
@@ -87,7 +87,7 @@ class Connection(asyncio.Protocol):
         self.pump()
         return not self.is_tls
 
-    # As the front has it.
+    # Calls of the front.
 
     def take(self, most: int) -> None:
         self.most = most
@@ -110,7 +110,7 @@ class Connection(asyncio.Protocol):
             carrier.abort()  # type: ignore[union-attr]
 
     def pump(self) -> None:
-        """Hands in what has come, as far as it may, and reads more only if that may come."""
+        """Hands in the next line, if the front allows one and it has come. Reads more only if the front waits for a line."""
         if self.most and not self.is_full and (event := self.next(self.most)):
             self.most = 0
             self.post(event)
@@ -121,7 +121,7 @@ class Connection(asyncio.Protocol):
                 self.transport.pause_reading()
 
     def next(self, most: int) -> Event | None:
-        """The next line, or the end of lines."""
+        """The event for the next line, or for the end of lines."""
         end = self.rest.find(b"\n", 0, most + 1)
         if end >= 0:
             line = bytes(self.rest[:end])
@@ -153,7 +153,7 @@ class Rates:
 
 
 class Clients:
-    """Takes connections, and does with each as the front has it. `terms` are those in force."""
+    """Takes connections, and carries out the effects on them. `terms` are those in force."""
 
     def __init__(self, listener: socket.socket, terms: Terms, post: Post, shell: Shell, fail: Callable[[str], None]) -> None:
         self.listener, self.terms, self.post, self.log, self.say = listener, terms, post, shell.log, shell.teller.say
@@ -164,12 +164,12 @@ class Clients:
         self.handshakes = Handshakes(terms.limits.all_handshakes_per_second, fail)
 
     def change(self, terms: Terms) -> None:
-        """Other terms hold from now on."""
+        """Puts other terms in force."""
         self.terms = terms
         self.rates.per_second = terms.limits.handshakes_per_second
         self.handshakes.per_second = terms.limits.all_handshakes_per_second
 
-    # What the front has done.
+    # Effects of the front.
 
     def take(self, effect: Take) -> None:
         if connection := self.connections.get(effect.connection):
@@ -190,10 +190,10 @@ class Clients:
         if connection := self.connections.get(effect.connection):
             connection.abort()
 
-    # Those who come.
+    # New connections.
 
     def start(self) -> None:
-        """Before the first comes. A RuntimeError says that the system has no thread."""
+        """Call it before the first connection is taken. A RuntimeError says that the system has no thread."""
         if self.is_tls:
             self.handshakes.start()
 
@@ -211,7 +211,7 @@ class Clients:
                 continue
             told = False
             await self.let_in(taken, *address[:2])
-            # Those who are in have their turn.
+            # Connections that are in have their turn before the next one is taken.
             await asyncio.sleep(0)
 
     async def let_in(self, taken: socket.socket, address: str, port: int) -> None:
@@ -245,8 +245,8 @@ class Clients:
 
 
 def network_of(address: str) -> str:
-    """What counts as one address: of IPv6 the network of 64 bits, any address of which one machine may take. An address of IPv4 that stands
-    in one of IPv6 counts as itself."""
+    """The network of an address; its connections count as one address. For IPv6 it is the network of 64 bits, since one machine may use any
+    address of it. An IPv4 address inside an IPv6 address counts as itself."""
     found = ipaddress.ip_address(address)
     if isinstance(found, ipaddress.IPv4Address):
         return str(found)

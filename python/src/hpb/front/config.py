@@ -22,7 +22,7 @@ from hpb.own_files import read_regular
 from hpb.refusals import Refused
 from hpb.rules.tree import Tree, tree_of
 
-# What stands in a file of TOML.
+# A table of a TOML file.
 Table = dict[str, Any]
 
 MOST_SESSIONS = 32
@@ -37,16 +37,16 @@ LOG_LIMITS = {
 TEXTS = ["file", "record", "tokens", "listen"]
 OPTIONAL_TEXTS = ["program", "certificate", "key"]
 FIELDS = {*TEXTS, *OPTIONAL_TEXTS, "port", "plain", "shared_network", "names", "limits", "board", "log"}
-# What stays as it was at the start; all else is read again at SIGHUP.
+# Fields that can't change while a front runs; all others are read again at SIGHUP.
 FIXED = ["file", "record", "tokens", "program", "port", "shared_network", "host", "listen_port", "roles", "board", "log"]
-# Kinds of the log's lines that strangers bring about.
+# The kinds of log lines that strangers can cause.
 STRANGERS = ["connection", "token", "ended", "page"]
 BOARD_FIELDS = {"listen", "names"}
 HOST_NAME = re.compile(r"[A-Za-z0-9-]{1,63}(\.[A-Za-z0-9-]{1,63})*")
 
 
 def read_limits(given: Table) -> Limits:
-    """Those of a configuration."""
+    """The limits of a configuration."""
     for name in given:
         if name not in LIMITS:
             raise Wrong(f"limits.{name}: there is no such limit")
@@ -56,7 +56,7 @@ def read_limits(given: Table) -> Limits:
 
 @dataclass(frozen=True)
 class LogPlace:
-    """The place of the log, and how much of it is kept. `path` is that of a file, if it goes into one."""
+    """The place of the log, and how much of it is kept. `path` is the log's file, if it goes into one."""
 
     to: str
     path: str | None
@@ -74,7 +74,7 @@ class LogPlace:
         return cls(to, str(folder / to) if to not in (STANDARD_ERROR, JOURNAL) else None, **wanted)
 
     def open(self, warn: Callable[[str], None]) -> Log:
-        """The log, which isn't started."""
+        """The log, whose thread isn't started yet."""
         sink: Sink
         if self.path:
             sink = Rotated(self.path, self.bytes, self.files)
@@ -106,10 +106,10 @@ class BoardPlace:
 
 
 class Config:
-    """What a configuration says. Paths in it are those of its folder."""
+    """A configuration. Paths in it begin at its folder."""
 
     def __init__(self, path: str | os.PathLike[str]) -> None:
-        # The name as it was given: a link may lead elsewhere by the time it is read again.
+        # The name as it was given, with links: a link may lead to another file when the configuration is read again.
         self.path = os.path.abspath(path)
         given = read_toml(path)
         for field in given:
@@ -135,7 +135,7 @@ class Config:
         look_at_files(self.files())
 
     def look_at_transport(self, plain: bool) -> None:
-        """Nobody's token is sent in clear, unless that is meant."""
+        """Refuses a configuration by which tokens would be sent in clear, unless it says `plain = true`."""
         if self.key and not self.certificate:
             raise Wrong("key: there is no certificate to it")
         places = {"listen": self.host, **({"board.listen": self.board.host} if self.board else {})}
@@ -145,7 +145,8 @@ class Config:
                             "clear; give certificate and key, or plain = true")
 
     def files(self) -> list[Kept]:
-        """Each file that it names. None may be two things: another file would be set aside as a torn record."""
+        """The files that the configuration names. No two may be the same: if the record had the name of another file, that file would be
+        set aside as a torn record."""
         files = [Kept("configuration", self.path), of_change("file", self.file), of_record(self.record), of_change("tokens", self.tokens)]
         if self.certificate:
             files.append(Kept("certificate", self.certificate))
@@ -162,15 +163,15 @@ class Config:
         return os.path.basename(self.record)
 
     def sessions(self) -> int:
-        """How many sessions names have with the server: each one, as far as it has them."""
+        """How many sessions with the server are for names: one for each name, up to the server's most."""
         return min(len(self.roles), MOST_SESSIONS - (self.board is not None))
 
     def places(self) -> int:
-        """How many there are in all: the board has the last."""
+        """How many sessions there are in all: the board has the last."""
         return self.sessions() + (self.board is not None)
 
     def tree(self) -> Tree:
-        """The definition, out of the head of the auction's file. Each name's bidders have to be in it."""
+        """The definition, from the head of the auction's file. Raises a Wrong if a name may bid for a bidder that isn't in it."""
         try:
             tree = tree_of(read_head(read_image(self.file, is_quiet=False)).definition)
         except Refused as fault:
@@ -182,21 +183,21 @@ class Config:
         return tree
 
     def silent_bidders(self, tree: Tree) -> list[str]:
-        """Those of the definition for whom nobody may bid."""
+        """The bidders of the definition for whom no name may bid."""
         spoken_for = {bidder for role in self.roles.values() for bidder in role.bidders}
         return [bidder for bidder in tree.bidders if bidder not in spoken_for]
 
     def read_certificate(self) -> Certificate | None:
-        """That of TLS, or nothing."""
+        """The certificate, if TLS is configured."""
         return Certificate.read(self.certificate, self.key) if self.certificate else None
 
     def differs_in(self, other: "Config") -> list[str]:
-        """The fields in which another configuration differs that is of the same file: those that can't change while a front runs."""
+        """The fields that differ in another reading of the same configuration and can't change while a front runs."""
         is_other = [field for field in FIXED if getattr(self, field) != getattr(other, field)]
         return is_other + (["certificate"] if bool(self.certificate) != bool(other.certificate) else [])
 
     def token_file(self) -> TokenFile:
-        """That which it names."""
+        """The file of tokens."""
         return TokenFile(self.tokens, self.roles)
 
     def addresses(self) -> list[Address]:

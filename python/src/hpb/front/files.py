@@ -11,7 +11,8 @@ from dataclasses import dataclass
 from hpb.front.faults import Wrong
 
 Identity = tuple[int, int]
-# What stands behind the name of a record, of a file or tokens, and of a log, before the front or `hpb format` has made it.
+# The endings of names beside a record, beside a file that is replaced as a whole, and beside a log. The front or `hpb format` makes such
+# files.
 OF_RECORD = re.compile(r"[2-9]|[1-9][0-9]+|asked|new(-[0-9]+)?|(asked\.)?torn-[0-9]+")
 OF_CHANGE = re.compile(r"new")
 OF_LOG = re.compile(r"[1-9][0-9]*")
@@ -19,14 +20,14 @@ OF_LOG = re.compile(r"[1-9][0-9]*")
 
 @dataclass(frozen=True)
 class Kept:
-    """A file of the configuration. `is_made` says which names behind its own are those of files that are made beside it."""
+    """A file of the configuration. `is_made` says for an ending of its name whether a file with that name is made beside it."""
 
     field: str
     path: str
     is_made: Callable[[str], bool] = lambda tail: False
 
     def names(self) -> set[str]:
-        """Its name, and that of the file to which that leads."""
+        """Its name, and the name of the file to which it leads."""
         folder, name = os.path.split(self.path)
         return {os.path.join(os.path.realpath(folder), name), os.path.realpath(self.path)}
 
@@ -34,7 +35,7 @@ class Kept:
         return any(name.startswith(f"{own}.") and self.is_made(name[len(own) + 1 :]) for own in self.names())
 
     def made(self) -> Iterator[str]:
-        """The files that there are beside it under such names."""
+        """The existing files with such names beside it."""
         folder, name = os.path.split(os.path.abspath(self.path))
         try:
             found = os.listdir(folder)
@@ -50,7 +51,7 @@ def of_record(path: str) -> Kept:
 
 
 def of_change(field: str, path: str) -> Kept:
-    """What is changed by a new file in its place."""
+    """For a file that is changed by putting a new file in its place."""
     return Kept(field, path, lambda tail: OF_CHANGE.fullmatch(tail) is not None)
 
 
@@ -60,7 +61,8 @@ def of_log(path: str, files: int) -> Kept:
 
 
 def look_at_files(files: list[Kept]) -> None:
-    """A Wrong names the first file that is two things."""
+    """Checks that no two files are the same, and that none has a name kept for a file beside another. A Wrong names the first that
+    fails."""
     known: dict[str | Identity, str] = {}
     for one in files:
         own: list[str | Identity] = [*one.names(), *identities(one.path)]
@@ -75,7 +77,7 @@ def look_at_files(files: list[Kept]) -> None:
 
 
 def look_beside(one: Kept, other: Kept) -> None:
-    """Whether one is a name of what is made beside the other, or leads to the same file as what was made there."""
+    """Raises a Wrong if a file has a name that is kept for files made beside the other, or leads to the same file as one of these."""
     if any(other.would_make(name) for name in one.names()):
         raise Wrong(f"{one.field}: {one.path} is a name of what is made beside the {other.field}, {other.path}: choose another")
     for made in other.made():
@@ -84,7 +86,7 @@ def look_beside(one: Kept, other: Kept) -> None:
 
 
 def identities(path: str) -> list[Identity]:
-    """What two names of one file have in common, if there is one."""
+    """The identity of the file with this name: two names of one file have it in common. The list is empty if there is no file."""
     try:
         found = os.stat(path)
     except (OSError, ValueError):

@@ -1,6 +1,7 @@
-"""What a front gives its page: all that the page needs of configuration, tokens and certificate, as the front itself has them (docs/BOARD.md).
+"""What a front gives the process of its page: the parts of configuration, tokens and certificate that the page needs, as the front has them
+(docs/BOARD.md).
 
-So both take the same when these are read again, and a page that is started anew meanwhile takes nothing that the front hasn't.
+So front and page agree when these are read again. A page that is started meanwhile gets nothing that the front doesn't have.
 """
 import json
 import os
@@ -19,7 +20,7 @@ PIECE = 65_536
 
 @dataclass(frozen=True)
 class Given:
-    """What a page is made of. `host_names` are those by which it may be asked for, and `viewers` how many each name may have."""
+    """The page's settings. `host_names` are the names by which it may be requested, and `viewers` is the most viewers of each name."""
 
     tree: Tree
     roles: dict[str, Role]
@@ -31,7 +32,7 @@ class Given:
 
 
 def written(config: Config, terms: Terms) -> bytes:
-    """The fields of a configuration that stay as they are, and the terms in force."""
+    """The page's settings as bytes, from a configuration and the terms in force."""
     certificate = terms.certificate
     assert config.board
     fields = {
@@ -63,7 +64,7 @@ def read(data: bytes) -> Given:
 
 
 def in_memory(data: bytes) -> int:
-    """A descriptor of a file that has this and no name: a child may get it."""
+    """Puts data into a file without a name, and returns its descriptor, which a child process may inherit."""
     file = os.memfd_create("front")
     try:
         while data:
@@ -75,7 +76,7 @@ def in_memory(data: bytes) -> int:
 
 
 def read_all(file: int) -> bytes:
-    """What stands in such a file, which is closed."""
+    """Reads such a file, and closes it."""
     data = b""
     while part := os.pread(file, PIECE, len(data)):
         data += part

@@ -14,13 +14,13 @@ LIMITS = {
     "all_handshakes_per_second": (200, 1, 10_000),
     "after_end_seconds": (60, 0, 604_800),
 }
-# Lines and handshakes of so many seconds may come at once.
+# So many seconds' worth of lines or handshakes may come at once.
 BURST_SECONDS = 2
 
 
 @dataclass(frozen=True)
 class Limits:
-    """The limits in force, each by its name in the configuration."""
+    """The limits in force, by their names in the configuration."""
 
     line_bytes: int
     lines_waiting: int

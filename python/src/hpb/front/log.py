@@ -1,7 +1,7 @@
-"""The log of a front: what strangers and names do, one object of JSON a line, never a token (docs/FRONT.md).
+"""The log of a front: what strangers and names do, an object of JSON on each line, and never a token (docs/FRONT.md).
 
-A thread writes the lines, so nobody waits for a disk or a terminal. Lines that come faster than their kind may, or faster than they can be
-written, are left out, and a line of kind `left_out` counts them.
+A thread writes the lines, so nobody waits for a disk or a terminal. Lines are left out if more of their kind come than may, or if they come
+faster than they can be written. A line of kind `left_out` counts them.
 """
 import contextlib
 import errno
@@ -25,13 +25,13 @@ JOURNAL = "journal"
 JOURNAL_SOCKET = "/run/systemd/journal/socket"
 # How each line begins.
 BEGINNING = b'{"at":"'
-# So much of a file is looked at to see whether it is a log.
+# So many bytes of a file show whether it is a log.
 LOOKED_AT = 4_096
 # So many lines wait to be written.
 MOST_WAITING = 10_000
-# As much is kept of a text: no field of a front is longer, but by mistake.
+# A text is cut to so many characters. No field of a front is longer, except by mistake.
 MOST_TEXT = 400
-# What others write, and what may be a token in that: neither a name nor a number of docs/PROTOCOL.md.
+# The fields that others write, and the words in them that may be tokens: each is neither a name nor a number of docs/PROTOCOL.md.
 SAID_BY_OTHERS = ("line", "path")
 MAY_BE_TOKEN = re.compile(r"(?<![!-~])(?![a-z0-9_]{16}(?![!-~])|[0-9]{16,20}(?![!-~]))[!-~]{16,}")
 # Seconds between two lines of kind `left_out`, and between two warnings that nothing can be written.
@@ -40,15 +40,15 @@ BURST_SECONDS = 2
 
 
 class Sink(Protocol):
-    """Where whole lines go."""
+    """Takes whole lines and writes them somewhere."""
 
     def write(self, line: bytes) -> None:
-        """Returns once the system has the line, or raises an OSError."""
+        """Writes a line, and returns once the system has it. An OSError says that it can't be written."""
 
 
 @dataclass
 class Stream:
-    """An open descriptor, as standard error is one. What was written of a line that failed is ended before the next one."""
+    """An open descriptor, such as standard error. If only a part of a line could be written, that part gets an LF before the next line."""
 
     descriptor: int
     is_torn: bool = False
@@ -63,7 +63,7 @@ class Stream:
 
 @dataclass
 class Journal:
-    """The journal of systemd, by its own protocol: a datagram an entry."""
+    """The journal of systemd, by its own protocol: each entry is a datagram."""
 
     path: str = JOURNAL_SOCKET
     connection: socket.socket | None = None
@@ -98,8 +98,8 @@ class Rotated:
         return self.stream
 
     def rotate(self) -> None:
-        """Each file takes the name of the next older one, up to the first name that is free; if none is the oldest goes. An OSError says
-        that one of them is no log: then nothing is moved."""
+        """Gives each file the name of the next older one, up to the first name that is free. If none is free, the oldest file is replaced.
+        If one of them is no log, an OSError says so, and nothing is moved."""
         names = [self.path, *(f"{self.path}.{number}" for number in range(1, self.files))]
         free = next((place for place, name in enumerate(names) if not os.path.lexists(name)), len(names))
         for name in names[:free]:
@@ -115,7 +115,7 @@ class Rotated:
 
 
 def open_log(path: str) -> int:
-    """A descriptor of a log, which is made if there is none. An OSError says that the file is something else, or not this user's own."""
+    """Opens a log, or makes it if there is none. An OSError says that the file is something else, or belongs to somebody else."""
     file = open_own(path, os.O_RDWR | os.O_APPEND)
     begun = os.pread(file, LOOKED_AT, 0).lstrip(b"\0")
     if begun.startswith(BEGINNING) or BEGINNING.startswith(begun):
@@ -126,7 +126,7 @@ def open_log(path: str) -> int:
 
 @dataclass
 class Bucket:
-    """How many lines of one kind may still come, and how many were left out."""
+    """How many more lines of one kind may come now, and how many were left out."""
 
     per_second: float
     credit: float
@@ -148,7 +148,7 @@ class Log:
     """Takes lines from any thread, and writes them in the order in which they came.
 
     `per_second` says how many lines of each kind may come, on the average; twice as many may come at once. Kinds that aren't named there
-    have no limit but what can be written. `warn` is told where nothing can be written, once a minute at most.
+    are limited only by how fast lines can be written. If nothing can be written, `warn` gets the error, once a minute at most.
     """
 
     sink: Sink
@@ -170,7 +170,7 @@ class Log:
         return self
 
     def write(self, kind: str, **fields: Field) -> None:
-        """Adds a line. It never waits, and what there is no room for is counted."""
+        """Adds a line, and never waits. If there is no room for it, it is only counted."""
         with self.lock:
             bucket = self.buckets.get(kind)
             if bucket and not bucket.may(time.monotonic()):
@@ -186,7 +186,7 @@ class Log:
 
     def keep_writing(self) -> None:
         while True:
-            # Whatever fails, the thread goes on: without it nothing would be written any more, and nobody would be told.
+            # Whatever fails, the thread goes on: if it ended, nothing more would be written, and nobody would learn of it.
             try:
                 self.write_next()
             except Exception as fault:
@@ -206,7 +206,7 @@ class Log:
             self.lines.task_done()
 
     def fail(self, fault: Exception) -> None:
-        """A log that can't be written keeps nobody from bidding."""
+        """A log that can't be written stops no bidder."""
         with contextlib.suppress(MemoryError):
             self.lose("unwritten")
             now = time.monotonic()
@@ -215,7 +215,7 @@ class Log:
                 self.warn(f"the log can't be written: {says(fault)}")
 
     def count(self, is_last: bool = False) -> None:
-        """Writes how many lines were left out, each second at most, and at the end."""
+        """Writes how many lines were left out: at the end, and in between at most once a second."""
         now = time.monotonic()
         if now - self.counted < COUNT_SECONDS and not is_last:
             return
@@ -233,7 +233,7 @@ class Log:
             return counts
 
     def end(self, seconds: float) -> None:
-        """Waits until all is written, so many seconds at most."""
+        """Waits until all is written, at most so many seconds."""
         end = time.monotonic() + seconds
         with contextlib.suppress(queue.Full):
             self.lines.put_nowait(b"")
@@ -242,7 +242,7 @@ class Log:
 
 
 def says(fault: Exception) -> str:
-    """A fault with the file that it is of, if there is one."""
+    """The words of a fault, with its file, if there is one."""
     if not isinstance(fault, OSError) or not fault.strerror:
         return repr(fault)
     return f"{fault.filename}: {fault.strerror}" if fault.filename else fault.strerror
@@ -254,7 +254,7 @@ def line_of(kind: str, fields: dict[str, Field]) -> bytes:
 
 
 def shown(name: str, value: Field) -> Field:
-    """A field as it may be read by anyone: a line or a path that has a token doesn't say which."""
+    """A field in a form that anyone may read: if it is a line or a path that might hold a token, the token is left out."""
     if not isinstance(value, str):
         return value
     if name == "line" and value.lstrip().lower().startswith("token"):

@@ -1,4 +1,4 @@
-"""Runs a front's core: events come in one after the other, and the effects of each are done in their order."""
+"""Runs a front's core: takes events one after the other, and carries out the effects of each in their order."""
 import collections
 import time
 from collections.abc import Callable
@@ -10,7 +10,8 @@ from hpb.front.core.events import Event
 
 
 class Machine:
-    """`shells` has for each kind of effect what does it. If a shell posts an event meanwhile, that is taken afterwards."""
+    """`shells` has, for each kind of effect, the call that carries it out. An event that is posted by such a call is taken after the
+    current one."""
 
     def __init__(self, front: Front, clock: Callable[[], float] = time.monotonic) -> None:
         self.front, self.clock = front, clock
@@ -19,8 +20,8 @@ class Machine:
         self.is_at_work = self.has_ended = False
 
     def post(self, event: Event) -> None:
-        """Takes an event. Whatever a shell raises goes through. Then effects are left undone, so nothing comes of any event any more, and the
-        front has to end."""
+        """Takes an event. If a shell raises something, it goes through, and the remaining effects are left undone. After that no event is
+        taken, and the front has to end."""
         self.events.append(event)
         if self.is_at_work:
             return
@@ -37,5 +38,5 @@ class Machine:
             self.is_at_work = False
 
     def end(self) -> None:
-        """Nothing comes of events any more."""
+        """From now on events are ignored."""
         self.has_ended = True

@@ -16,22 +16,22 @@ BACKLOG = 256
 CLONE_NEWUSER, CLONE_NEWNET = 0x10000000, 0x40000000
 LOOPBACK = b"lo"
 SIOCGIFFLAGS, SIOCSIFFLAGS, IFF_UP = 0x8913, 0x8914, 0x1
-# A name of 16 bytes, flags of 2, and the rest of the kernel's `struct ifreq`.
+# An interface's name of 16 bytes, its flags of 2, and the rest of the kernel's `struct ifreq`.
 INTERFACE = struct.Struct("16sh22x")
 SO_NETNS_COOKIE = 71
 COOKIE_BYTES = 8
-# How systemd hands sockets in: their number, for whom they are, and their names; the first is descriptor 3.
+# By these variables systemd hands sockets in: how many, for which process, and their names. The first is descriptor 3.
 FIRST_GIVEN = 3
 GIVEN_COUNT, GIVEN_PROCESS = "LISTEN_FDS", "LISTEN_PID"
 
 
 class Refused(Exception):
-    """A socket or a network that the system doesn't give; the text says which, and why."""
+    """The system refuses a socket or a network. The text says which one, and why."""
 
 
 @dataclass(frozen=True)
 class Address:
-    """Where to listen: an address in figures and a port, 0 for any that is free; and the configuration's field that says so."""
+    """An address to listen at: the host in figures, a port (0 for any that is free), and the configuration's field that names it."""
 
     field: str
     host: str
@@ -50,13 +50,14 @@ class Address:
 
 
 def take(address: Address, given: list[socket.socket]) -> socket.socket:
-    """The socket of an address, which listens: one of those that were handed in, or a new one. Who connects waits until he is let in."""
+    """The listening socket of an address: one of those that were handed in, or a new one. Clients that connect wait until the front takes
+    them."""
     taken = next((handed for handed in given if address.is_of(handed)), None)
     try:
         if taken is None:
             taken = bound(address)
         taken.setblocking(False)
-        # At once: as long as a socket doesn't listen, another account may bind one to the same address and listen first. Then this fails.
+        # It has to listen at once. Before it does, another account may bind a socket to the same address and listen first; then this fails.
         taken.listen(BACKLOG)
     except OSError as fault:
         raise Refused(f"{address.field}: {address}: {fault.strerror or fault}") from None
@@ -75,7 +76,7 @@ def bound(address: Address) -> socket.socket:
 
 
 def handed_in() -> list[socket.socket]:
-    """The sockets that systemd handed in. Children don't get them, nor the words that tell of them."""
+    """The sockets that systemd handed in. Children get neither these sockets nor the variables about them."""
     count, process = os.environ.pop(GIVEN_COUNT, ""), os.environ.pop(GIVEN_PROCESS, "")
     os.environ.pop("LISTEN_FDNAMES", None)
     if process != str(os.getpid()):
@@ -97,9 +98,9 @@ def given_socket(number: int) -> socket.socket:
 
 
 def enter_own(listeners: list[socket.socket]) -> None:
-    """Enters a network of its own, unless the sockets that were handed in are of another one than the process is in already.
+    """Enters a network of its own, unless the process is in another network than the handed-in sockets already.
 
-    It has to come before the first thread: a process of several threads gets no user namespace.
+    It has to come before the first thread: the system gives a process of several threads no user namespace.
     """
     if not is_apart(listeners):
         unshare()
@@ -110,14 +111,14 @@ def enter_own(listeners: list[socket.socket]) -> None:
 
 
 def is_apart(listeners: list[socket.socket]) -> bool:
-    """Whether all these sockets are of another network than those that the process makes now, as with PrivateNetwork= of systemd."""
+    """Whether all these sockets are of another network than the process's own, as with PrivateNetwork= of systemd."""
     with socket.socket() as probe:
         own = cookie_of(probe)
     return bool(listeners) and own is not None and all(cookie_of(one) not in (None, own) for one in listeners)
 
 
 def cookie_of(one: socket.socket) -> bytes | None:
-    """What tells networks from one another; nothing where the kernel is older than 5.14."""
+    """The kernel's number of the socket's network, or nothing if the kernel is older than 5.14."""
     try:
         return one.getsockopt(socket.SOL_SOCKET, SO_NETNS_COOKIE, COOKIE_BYTES)
     except OSError:
@@ -125,7 +126,7 @@ def cookie_of(one: socket.socket) -> bytes | None:
 
 
 def unshare() -> None:
-    """A new network; where only root may have one, in a user namespace in which this user is itself."""
+    """Enters a new network. If only root may have one, it enters a new user namespace too, in which this user keeps its own id."""
     user, group = os.geteuid(), os.getegid()
     if not call_unshare(CLONE_NEWNET):
         return
@@ -140,7 +141,7 @@ def unshare() -> None:
 
 
 def call_unshare(flags: int) -> int:
-    """0, or the number of the error."""
+    """Calls unshare(2). Returns 0, or the number of the error."""
     library = ctypes.CDLL(None, use_errno=True)
     return 0 if library.unshare(flags) == 0 else ctypes.get_errno() or errno.EPERM
 

@@ -1,4 +1,4 @@
-"""Programs that a front starts: they end when it does, and are waited for without a thread (docs/FRONT.md)."""
+"""Child processes of a front: they end when it does, and no thread waits for them (docs/FRONT.md)."""
 import asyncio
 import contextlib
 import ctypes
@@ -11,16 +11,16 @@ from collections.abc import Sequence
 from hpb.front.watch import free_signals
 
 END_WITH_PARENT = 1
-# What the system refuses for the moment.
+# Errors that may pass.
 PASSING = {errno.EAGAIN, errno.ENOMEM, errno.EINTR, errno.EMFILE, errno.ENFILE}
 MOST_READ = 65_536
-# How long one that was killed may take to be gone.
+# A killed process has so many seconds to end.
 GONE_SECONDS = 1.0
 LIBRARY = ctypes.CDLL(None)
 
 
 class StartsNot(Exception):
-    """A program that the system doesn't start. `may_pass` says whether that may be another time."""
+    """The system doesn't start a program. `may_pass` says whether another try may help."""
 
     def __init__(self, text: str, may_pass: bool) -> None:
         super().__init__(text)
@@ -28,7 +28,7 @@ class StartsNot(Exception):
 
 
 class Child:
-    """A process. What it writes on standard output is read by lines."""
+    """A child process, whose standard output is read line by line."""
 
     def __init__(self, words: Sequence[str], stdin: int, descriptors: Sequence[int] = ()) -> None:
         try:
@@ -53,7 +53,7 @@ class Child:
             raise
 
     def give_up(self) -> None:
-        """It is killed, and not waited for by the loop."""
+        """Kills it, and waits without the event loop until it is gone."""
         self.process.kill()
         self.process.wait(GONE_SECONDS)
         self.close()
@@ -63,7 +63,7 @@ class Child:
         self.process.poll()
 
     async def line(self, seconds: float) -> str:
-        """Its next line; empty where it ends before, or nothing comes for so long."""
+        """Its next line. The text is empty if it ends first, or if nothing comes within so many seconds."""
         try:
             return await asyncio.wait_for(self.next_line(), seconds)
         except asyncio.TimeoutError:
@@ -76,7 +76,7 @@ class Child:
         return line.decode("latin-1").strip()
 
     async def rest(self, seconds: float) -> str:
-        """What it still writes until it ends, as far as that comes in time."""
+        """The rest of its output until it ends, as far as it comes in so many seconds."""
         with contextlib.suppress(asyncio.TimeoutError):
             await asyncio.wait_for(self.read_all(), seconds)
         return self.received.decode("latin-1").strip()
@@ -86,7 +86,7 @@ class Child:
             pass
 
     async def read(self) -> bool:
-        """Whether there was more."""
+        """Reads more of its output. The result is whether there was any."""
         assert self.process.stdout
         descriptor = self.process.stdout.fileno()
         while True:
@@ -101,12 +101,12 @@ class Child:
             return bool(part)
 
     async def status(self, seconds: float) -> int | None:
-        """How it ended: its status, or minus the signal; nothing if it goes on for so long."""
+        """Its exit status, or minus the signal that ended it; None if it hasn't ended within so many seconds."""
         await asyncio.wait([self.exited], timeout=max(0.0, seconds))
         return self.process.poll()
 
     async def end(self) -> None:
-        """Kills it, and waits until it is gone; not for ever, as where a disk holds it."""
+        """Kills it, and waits until it is gone. The wait has a limit, because a disk that hangs may hold the process."""
         self.process.kill()
         await asyncio.wait([self.exited], timeout=GONE_SECONDS)
         self.exited.cancel()
@@ -124,7 +124,7 @@ class Child:
 
 
 async def readable(descriptor: int) -> None:
-    """Returns once there is something to be read, or its end."""
+    """Waits until there is something to read, or the end."""
     loop = asyncio.get_running_loop()
     ready: asyncio.Future[None] = loop.create_future()
 
@@ -140,7 +140,7 @@ async def readable(descriptor: int) -> None:
 
 
 def end_with_parent() -> None:
-    """In the child: it ends when the front does, however that ends; and signals reach it."""
+    """Runs in the child: from here on it ends when the front does, however that ends, and gets signals."""
     if LIBRARY.prctl(END_WITH_PARENT, signal.SIGKILL):
         raise OSError("it can't be made to end with the front")
     free_signals()

@@ -1,4 +1,4 @@
-"""The record of a front on its disk: threads of their own write entries there, in the order in which they came (docs/FRONT.md)."""
+"""The record of a front on its disk: threads of their own write the entries, in the order in which they came (docs/FRONT.md)."""
 import asyncio
 import os
 from collections.abc import Callable
@@ -12,7 +12,7 @@ from hpb.front.faults import Stops
 from hpb.record import Damaged, Entry, InTheWay, InUse, New, Place, RecordFile, State, WrongSegment, time_now
 from hpb.record.asked import Asked
 
-# So many entries go by one write at most, and so many commands beside the record by one sync.
+# One write takes at most so many entries, and one sync at most so many commands beside the record.
 MOST_AT_ONCE = 128
 
 Item = TypeVar("Item")
@@ -20,7 +20,7 @@ Beside = PutBeside | FreeBeside | EmptyBeside
 
 
 class Places(Protocol):
-    """What stands beside a record."""
+    """The places beside a record."""
 
     def put(self, places: dict[int, Asked | None]) -> None: ...
     def left(self) -> list[Asked]: ...
@@ -28,7 +28,7 @@ class Places(Protocol):
 
 
 class Record(Protocol):
-    """A record that is open."""
+    """An open record."""
 
     place: Place
     state: State
@@ -39,7 +39,8 @@ class Record(Protocol):
 
 
 def open_record(path: str, definition: Any, may_set_aside: bool) -> tuple[RecordFile, Entry | None]:
-    """The record of an auction, and its torn end, if that was set aside. A Stops says why the front can't go on with it, and what to do."""
+    """Opens an auction's record. Gives the record, and the entry about its torn end if that was set aside. A Stops says why the front can't
+    use it, and what to do."""
     name = os.path.basename(path)
     try:
         record = RecordFile(path)
@@ -65,7 +66,7 @@ def open_record(path: str, definition: Any, may_set_aside: bool) -> tuple[Record
 
 
 def way_out(name: str, fault: Damaged) -> str:
-    """What to do about a record that can't be gone on with: what loses something comes last."""
+    """Advice if a record can't be used. Ways that lose something come last."""
     first = f"Look for the right record, all its segments and {name}.asked, or else for its newest backup, and start again with that. Only if there is none, "
     if isinstance(fault, WrongSegment):
         return f"{first}name a new record in the configuration, and start with --foreign"
@@ -73,7 +74,7 @@ def way_out(name: str, fault: Damaged) -> str:
 
 
 def opened(record: Record) -> RecordOpened:
-    """What a record comes to that is open."""
+    """The event for a record that was opened."""
     state = record.state
     left = [Left(name, line, number) for number, (name, line) in sorted(state.open.items())]
     left += [Left(asked.name, asked.line) for asked in record.asked.left()]
@@ -81,7 +82,8 @@ def opened(record: Record) -> RecordOpened:
 
 
 class Writer(Generic[Item]):
-    """Hands items to a call in a thread of its own, as many at once as have come meanwhile; `done` gets what the call gives."""
+    """Hands items to a call in a thread of its own. All items that came meanwhile go together, up to a limit. The call's event is
+    posted."""
 
     def __init__(self, call: Callable[[list[Item]], Event | None], post: Callable[[Event], None]) -> None:
         self.call, self.post = call, post
@@ -98,20 +100,20 @@ class Writer(Generic[Item]):
         loop = asyncio.get_running_loop()
         while self.waiting:
             items, self.waiting = self.waiting[:MOST_AT_ONCE], self.waiting[MOST_AT_ONCE:]
-            # Whatever fails, memory too: nobody is answered any more, so the front ends, by words.
+            # Any failure, even a lack of memory, ends the front with a message: without the record nobody can be answered.
             try:
                 event = await loop.run_in_executor(self.thread, self.call, items)
             except Exception as fault:
                 self.post(Failed(f"the record can't be written: {fault if isinstance(fault, (OSError, Damaged)) else repr(fault)}"))
                 return
             if event:
-                # If that fails, it is no failure of the record.
+                # It is called later, so that a failure of it isn't taken for one of the record.
                 loop.call_soon(self.post, event)
         self.writing = None
 
 
 class Recorder:
-    """Writes entries into a record, and commands beside it. An event says when they are on the disk."""
+    """Writes entries into a record, and commands beside it. Events say when they are on the disk."""
 
     def __init__(self, record: Record, post: Callable[[Event], None]) -> None:
         self.record = record
@@ -119,20 +121,20 @@ class Recorder:
         self.beside: Writer[Beside] = Writer(self.put_all, post)
 
     def write(self, effect: Write) -> None:
-        """An entry, with the time at which it came."""
+        """Writes an entry, with the time at which it came."""
         self.entries.add(New(effect.kind, dict(effect.fields), time_now()))
 
     def put(self, effect: Beside) -> None:
-        """A command beside the record, or its end there."""
+        """Writes a command beside the record, or empties places there."""
         self.beside.add(effect)
 
     def write_all(self, entries: list[New]) -> Event:
-        """In the thread of entries."""
+        """Runs in the thread of entries."""
         self.record.write(entries)
         return Synced(len(entries), self.record.place)
 
     def put_all(self, effects: list[Beside]) -> Event | None:
-        """In the thread of what stands beside."""
+        """Runs in the thread of the file beside the record."""
         if any(isinstance(effect, EmptyBeside) for effect in effects):
             self.record.asked.clear()
             return BesideEmptied()

@@ -14,28 +14,28 @@ ALLOWED = {
     OBSERVER: {b"SHOW", b"NODE"},
 }
 TOKEN = b"TOKEN "
-# The front's own refusals: what stands behind `ERR front`.
+# The front's own refusals: the words after `ERR front`.
 FORM, RIGHTS, LONG, UNKNOWN, MANY, IDLE = REFUSALS = ("line", "rights", "long", "token", "many", "idle")
 
 
 def refused(word: str) -> bytes:
-    """A line of the front's own. The server has a number where this has `front`."""
+    """A refusal by the front itself. It has `front` in the place of the server's number."""
     return f"ERR front {word}".encode()
 
 
 def welcome(name: str) -> bytes:
-    """What a connection is answered whose token is that of a name."""
+    """The answer to a token of this name."""
     return f"WELCOME {name}".encode()
 
 
 class Role(NamedTuple):
-    """What a name may send."""
+    """The rights of a name. `bidders` are those for whom a bidder may bid."""
 
     kind: str
     bidders: tuple[str, ...] = ()
 
     def refusal(self, line: bytes) -> str | None:
-        """By which word of the front a line is refused, or nothing."""
+        """The word by which the front refuses a line, or None if it takes it."""
         words = line.split(b" ")
         if len(words) != WORDS.get(words[0]) or b"" in words:
             return FORM
@@ -46,27 +46,27 @@ class Role(NamedTuple):
         return None
 
     def seen(self, tree: Tree) -> list[str]:
-        """The bidders of a definition that it may ask about by WHO."""
+        """The bidders of a definition about which this role may ask WHO."""
         everyone: dict[str, list[str]] = {AUCTIONEER: list(tree.bidders), OBSERVER: []}
         return everyone.get(self.kind, list(self.bidders))
 
     def shown(self) -> list[str] | str:
-        """As a configuration and a record have it."""
+        """The role as it stands in a configuration or a record."""
         return list(self.bidders) if self.kind == BIDDER else self.kind
 
 
 def role_of(shown: list[str] | str) -> Role:
-    """What `shown` of a role stands for."""
+    """The role that stands so in a configuration or a record."""
     return Role(BIDDER, tuple(shown)) if isinstance(shown, list) else Role(shown)
 
 
 def is_command(line: bytes) -> bool:
-    """Whether a line, if it is accepted, changes the auction."""
+    """Whether a line would change the auction if it were accepted."""
     return line.split(b" ", 1)[0] in COMMANDS
 
 
 def sender_and_ticket(line: bytes) -> tuple[str | None, int]:
-    """Of a command that is written as the server wants it; `None` stands for the auctioneer, and a ticket that is no number is 0."""
+    """The sender and the ticket of a command in the server's form. The auctioneer is `None`. A ticket that isn't a number is 0."""
     words = line.split(b" ")
     sender, ticket = (words[1].decode("latin-1"), words[2]) if words[0] in NAMES_A_BIDDER else (None, words[1])
     return sender, int(ticket) if ticket.isdigit() else 0

@@ -1,4 +1,4 @@
-"""A front that runs: its core, and the shells round it (docs/FRONT.md)."""
+"""A running front: its core, and the shells round it (docs/FRONT.md)."""
 import asyncio
 import resource
 import socket
@@ -19,16 +19,16 @@ from hpb.front.terms import Reload, Terms
 from hpb.rules.tree import Tree
 from hpb.rules.writing import fields_of
 
-# What waits for time is looked at so often. A loop that the system didn't wake once is awake again by then, too.
+# Seconds between two looks at everything that waits for time. If the system didn't wake the loop once, it is awake again by then.
 TICK_SECONDS = 0.5
-# Descriptors beside those of connections and sessions.
+# Descriptors needed besides those of connections and sessions.
 MORE_DESCRIPTORS = 48
 
 Work = Coroutine[Any, Any, None]
 
 
 class Running:
-    """It ends when `run` does: a Stops says why it couldn't go on."""
+    """A front that lasts as long as `run` does. A Stops says why it couldn't go on."""
 
     def __init__(self, config: Config, terms: Terms, tree: Tree, sockets: list[socket.socket], shell: Shell) -> None:
         loop = asyncio.get_running_loop()
@@ -50,7 +50,7 @@ class Running:
         self.connect_shells()
 
     def connect_shells(self) -> None:
-        """What does each kind of effect; the record does once it is open."""
+        """For each kind of effect, the call that carries it out. The record's calls are added once it is open."""
         clients, server, shell = self.clients, self.server, self.shell
         self.machine.shells |= {
             effects.Admit: self.admit, effects.Shut: self.shut,
@@ -79,7 +79,7 @@ class Running:
             raise Stops(why)
 
     async def open_record(self) -> None:
-        """Its disk may hang: a thread waits for that."""
+        """A thread waits for it, because its disk may hang."""
         given, definition = self.shell.given, fields_of(self.tree.definition)
         record, torn = await asyncio.to_thread(open_record, self.config.record, definition, given.set_aside)
         if torn:
@@ -92,7 +92,7 @@ class Running:
         self.machine.post(await asyncio.to_thread(opened, record))
 
     async def leave(self) -> None:
-        """Nothing goes on; the server and the page are gone, if the system lets them."""
+        """Ends everything: no task goes on, and the server and the page are gone, if the system lets them end."""
         self.machine.end()
         for task in self.tasks:
             task.cancel()
@@ -103,7 +103,7 @@ class Running:
     # Work beside the rest, and what goes wrong.
 
     def begin(self, work: Work) -> asyncio.Task[None]:
-        """What goes on beside the rest. When it fails the front does."""
+        """Begins work beside the rest. If it fails, the front ends."""
         task = asyncio.create_task(work)
         self.tasks.add(task)
         task.add_done_callback(self.look_at_end)
@@ -120,7 +120,7 @@ class Running:
             self.finished.set_result(why)
 
     def fail(self, why: str) -> None:
-        """The front ends by this, in any case within some seconds."""
+        """Ends the front for this reason, within some seconds in any case."""
         self.shell.watch.arm()
         self.finish(why)
 
@@ -131,7 +131,7 @@ class Running:
             end_at_once()
 
     def take_fault(self, _: asyncio.AbstractEventLoop, context: dict[str, Any]) -> None:
-        """What goes wrong in the loop itself, and would only be logged."""
+        """Takes faults of the event loop itself, which asyncio would only log."""
         try:
             if fault := context.get("exception"):
                 self.fail(fault_says(fault))
@@ -150,7 +150,7 @@ class Running:
     def wake(self, effect: effects.Wake) -> None:
         self.finished.get_loop().call_later(effect.seconds, self.machine.post, events.Tick())
 
-    # The door, and the terms in force.
+    # Taking connections, and the terms in force.
 
     def admit(self, _: effects.Admit) -> None:
         self.clients.start()
@@ -166,7 +166,7 @@ class Running:
         self.begin(self.reloading.change())
 
     def take_terms(self, terms: Terms) -> None:
-        """Those that were read again hold from now on."""
+        """Puts terms in force that were read again."""
         self.allow_descriptors()
         self.clients.change(terms)
         self.machine.post(events.Reloaded(terms.limits, terms.tokens))
@@ -174,7 +174,7 @@ class Running:
             self.board.change()
 
     def allow_descriptors(self) -> None:
-        """As many as the limits need, if the system lets the front have them."""
+        """Raises the limit of descriptors to what the front's own limits need, if the system lets it."""
         limits, names = self.reloading.terms.limits, len(self.config.roles)
         wanted = names * limits.connections + limits.unknown_connections + 2 * self.config.places() + MORE_DESCRIPTORS
         soft, hard = resource.getrlimit(resource.RLIMIT_NOFILE)

@@ -1,4 +1,4 @@
-"""`hpb serve` behind a front: its process, and its sessions, all of which the front has (docs/FRONT.md)."""
+"""`hpb serve` behind a front: its process, and its sessions, all of which belong to the front (docs/FRONT.md)."""
 import asyncio
 import socket
 import subprocess
@@ -14,20 +14,20 @@ from hpb.front.core.serving import GIVEN_UP
 from hpb.front.process import Child, StartsNot
 
 ADDRESS = "127.0.0.1"
-# How long one may take until it listens, as it reads its file, and until a session answers.
+# Seconds until a new server has to listen, since it reads its file first; and until a session has to answer.
 START_SECONDS, PATIENCE = 60, 30
-# One whose sessions are lost has ended, or isn't waited for.
+# Seconds to wait for the exit status of a server whose sessions are lost.
 STATUS_SECONDS = 0.2
-# A file or a port may be in use for a moment, by a server that is ending.
+# For a moment, a server that is ending may still use the file or the port.
 PASSING = ("ERR 91 device", "ERR 92 stream")
-# No answer is so long.
+# Longer than any answer.
 MOST_ANSWER = 65_536
 
 Begin = Callable[[Coroutine[Any, Any, None]], asyncio.Task[None]]
 
 
 class ComesNot(Exception):
-    """A server that can't be had; `is_final` says that another start can't help."""
+    """There is no server. `is_final` says that another start can't help."""
 
     def __init__(self, text: str, is_final: bool = False) -> None:
         super().__init__(text)
@@ -42,7 +42,7 @@ def free_port() -> int:
 
 
 class Session(asyncio.Protocol):
-    """A connection to the server, whose lines `hear` gets; `lost` is set when it ends."""
+    """A connection to the server. `hear` gets its lines, and `lost` is set when it ends."""
 
     def __init__(self, hear: Callable[[bytes], None], lost: asyncio.Event) -> None:
         self.hear, self.lost = hear, lost
@@ -78,7 +78,7 @@ class Session(asyncio.Protocol):
 
 
 class Server:
-    """Starts a server, and tells it the lines of its sessions."""
+    """Starts servers, and sends them the lines of the sessions."""
 
     def __init__(self, config: Config, post: Callable[[Event], None], begin: Begin) -> None:
         self.config, self.post, self.begin = config, post, begin
@@ -101,7 +101,7 @@ class Server:
         self.begin(self.end_within(effect.seconds))
 
     async def keep(self) -> None:
-        """One server, from its start to its loss."""
+        """Runs one server from its start until it is lost."""
         self.lost = asyncio.Event()
         try:
             await self.come()
@@ -123,7 +123,7 @@ class Server:
             self.post(SessionOpened(await self.connect(place, port)))
 
     async def come_up(self) -> int:
-        """The port of a new process that listens."""
+        """Starts a process. Returns its port once it listens."""
         port = free_port()
         words = ["serve", "--file", self.config.file, "--port", str(port), "--sessions", str(self.config.places())]
         try:
@@ -138,7 +138,8 @@ class Server:
         raise ComesNot(f"the server doesn't come up: {line or 'it says nothing'}")
 
     async def connect(self, place: int, port: int) -> bytes:
-        """What a new session is answered to SHOW. Were one of its places taken by another, the server would refuse the last one."""
+        """Opens a session, and returns its answer to SHOW. If somebody else took one of the server's places, it refuses the last
+        session."""
         shown: asyncio.Future[bytes] = asyncio.get_running_loop().create_future()
         hear = lambda line: self.post(Answered(place, line)) if shown.done() else shown.set_result(line)
         try:
@@ -164,12 +165,12 @@ class Server:
             lost.cancel()
 
     async def how_it_ended(self) -> str:
-        """Its status, if it ended by itself; a server of somebody else has none that is known."""
+        """Words about its exit status, if it ended by itself. If somebody else started the server, nobody knows its status."""
         status = await self.child.status(STATUS_SECONDS) if self.child else None
         return "" if status is None else f" ({told_of(status)})"
 
     async def end_within(self, seconds: float) -> None:
-        """Ends all sessions, and the server."""
+        """Ends all sessions and the server, within so many seconds."""
         self.is_ending, end = True, time.monotonic() + seconds
         ended = ServerEnded("", None)
         if not self.is_up and self.keeping:
@@ -182,7 +183,7 @@ class Server:
         self.post(ended)
 
     async def stop(self) -> None:
-        """No session is left, and no process."""
+        """Ends whatever is left: no session and no process remains."""
         self.is_up = False
         for session in self.sessions:
             session.close()

@@ -1,4 +1,4 @@
-"""What a front has of its process: its words, its log, signals, sockets, and the file of tokens that it changes (docs/FRONT.md)."""
+"""A front's process: its arguments, its output, its log, signals, sockets, and changes to the file of tokens (docs/FRONT.md)."""
 import argparse
 import os
 import socket
@@ -12,12 +12,13 @@ from hpb.front.words import Teller, cry
 from hpb.streams import STANDARD_OUTPUT, write_all
 
 
-# Faults whose words are the system's or Python's own.
+# Faults with a text by the system or by Python alone.
 SAID = (OSError, RuntimeError, MemoryError)
 
 
 def fault_says(fault: BaseException) -> str:
-    """A fault's kind, and its words if nobody else's can be among them: others may carry what nobody is to read, as a token."""
+    """The kind of a fault. Its text follows only if nothing else can be in it: the text of other faults may hold secrets, such as a
+    token."""
     if isinstance(fault, Stops):
         return str(fault)
     words = f": {fault}" if isinstance(fault, SAID) and str(fault) else ""
@@ -25,13 +26,13 @@ def fault_says(fault: BaseException) -> str:
 
 
 def end_at_once() -> NoReturn:
-    """Without a call that needs more than is left."""
+    """Ends the process at once, by calls that need hardly any memory."""
     cry(b"front: a fault of the front, for which there is no memory left to say more\n")
     os._exit(1)
 
 
 class Shell:
-    """What a front has of its process: the words that it was given and that it writes, its log, and the signals."""
+    """A front's process: its arguments, its output, its log, and signals."""
 
     def __init__(self, config: Config, given: argparse.Namespace, teller: Teller) -> None:
         self.given, self.teller, self.log, self.watch = given, teller, config.log.open(teller.say), Watch()
@@ -47,7 +48,7 @@ class Shell:
 
 
 def take_sockets(config: Config) -> list[socket.socket]:
-    """Those that it listens on, one for each address. The server is behind them in a network of its own."""
+    """The listening sockets, one for each address. Then enters a network of its own, in which the server will listen."""
     given = handed_in()
     sockets = [take(address, given) for address in config.addresses()]
     if config.shared_network:
@@ -61,7 +62,7 @@ def take_sockets(config: Config) -> list[socket.socket]:
 
 
 def change_tokens(given: argparse.Namespace, teller: Teller) -> None:
-    """`tokens add`, `revoke` and `list`. A token that can't be shown is nobody's."""
+    """`tokens add`, `revoke` and `list`. If a new token can't be shown, a Stops says so: nobody can use it."""
     file = Config(given.config).token_file()
     if given.what == "list":
         show("".join(f"{token.name} {token.id}\n" for token in file.tokens().known))
@@ -84,14 +85,14 @@ def show(text: str) -> None:
 
 
 class Words(argparse.ArgumentParser):
-    """Those of the front. Its help is written as all else is: a failure isn't passed over."""
+    """The parser of the front's arguments. If the help can't be written, that is reported like any other failure of standard output."""
 
     def print_help(self, file: IO[str] | None = None) -> None:
         show(self.format_help())
 
 
 def read_words(text: str, name: str) -> argparse.Namespace:
-    """What the front was given; it ends by help, and by words that it hasn't."""
+    """Reads the front's arguments. Ends the process after the help, or if the arguments are wrong."""
     words = Words(prog=name, description=text, formatter_class=argparse.RawDescriptionHelpFormatter)
     words.add_argument("--config", required=True, help="the configuration, a file of TOML")
     words.add_argument("--make-tokens", action="store_true", help="make the file of tokens, with one for each name, and end")

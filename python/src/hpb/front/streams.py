@@ -1,6 +1,6 @@
-"""Standard streams that lead into a file of the front: what is said would be written there (docs/FRONT.md).
+"""Keeps the front's words out of its own files: a standard stream may lead into one of them (docs/FRONT.md).
 
-This is looked at before anything is said, however bad the words and the configuration are.
+This is looked at before anything is said, even if the arguments and the configuration are wrong.
 """
 import contextlib
 import os
@@ -21,7 +21,8 @@ MOST_LOGS = 1_000
 
 
 def streams_lead_astray(words: Sequence[str]) -> bool:
-    """Whether a stream of a front with these words leads into one of its files. Then that is said on the other one, if it doesn't."""
+    """Whether standard output or standard error leads into a file of the front with these arguments. The other stream says so, if it can be
+    used."""
     leads = {number: found for number in STREAMS if (found := regular(number))}
     if not leads:
         return False
@@ -41,7 +42,8 @@ def regular(stream: int) -> Identity | None:
 
 
 def configs_in(words: Sequence[str]) -> Iterator[str]:
-    """Each configuration that is named, by an abbreviation as well: of several the last one counts, if the words are right."""
+    """Each configuration that the arguments name, by an abbreviated option as well. If there are several, and the arguments are right, the
+    last one counts."""
     for place, word in enumerate(words):
         name, is_joined, value = word.partition("=")
         if len(name) > 2 and CONFIG.startswith(name):
@@ -49,7 +51,7 @@ def configs_in(words: Sequence[str]) -> Iterator[str]:
 
 
 def files_of(config: str) -> Iterator[tuple[str, str]]:
-    """Each file that a configuration names, and each that stands beside it under a name of the front's, as far as it can be read."""
+    """Each file that a configuration names, and the names of the files made beside it, as far as the configuration can be read."""
     path = pathlib.Path(config).resolve()
     yield "configuration", str(path)
     for kept in kept_in(path):

@@ -1,4 +1,4 @@
-"""What a front reads again at SIGHUP: tokens, limits and certificate (docs/FRONT.md)."""
+"""The terms that a front reads again at SIGHUP: tokens, limits and certificate (docs/FRONT.md)."""
 import asyncio
 import time
 from collections.abc import Callable
@@ -14,7 +14,7 @@ from hpb.front.tokens import Tokens
 
 @dataclass(frozen=True)
 class Terms:
-    """Those in force."""
+    """Terms that are in force together."""
 
     limits: Limits
     tokens: Tokens
@@ -22,21 +22,21 @@ class Terms:
 
 
 def read_terms(path: str, in_force: Config | None = None) -> tuple[Config, Terms]:
-    """A configuration and its terms. Names and the file of tokens are those of the one in force, if there is one."""
+    """Reads a configuration and its terms. If there is one in force, its names and its file of tokens stay."""
     config = Config(path)
     return config, Terms(config.limits, (in_force or config).token_file().tokens(), config.read_certificate())
 
 
 class Reload:
-    """Keeps the terms in force; `take` is given those that take their place."""
+    """Keeps the terms in force. `take` gets the new terms after each change."""
 
     def __init__(self, config: Config, terms: Terms, take: Callable[[Terms], None], say: Callable[[str], None], log: Log) -> None:
         self.config, self.terms, self.take, self.say, self.log = config, terms, take, say, log
         self.in_turn = asyncio.Lock()
 
     async def change(self) -> None:
-        """Reads all again, one time after another: the last signal's files are those that stay in force. If anything is wrong with them the
-        old ones do."""
+        """Reads everything again, one change after the other, so that the last signal's files stay in force. If anything in them is wrong,
+        the old terms stay in force."""
         async with self.in_turn:
             try:
                 config, terms = await asyncio.to_thread(read_terms, self.config.path, self.config)
@@ -47,7 +47,7 @@ class Reload:
             self.change_to(self.config.differs_in(config), terms)
 
     def change_to(self, differs: list[str], terms: Terms) -> None:
-        """Puts these in force. `differs` are fields that stay as they were."""
+        """Puts new terms in force. `differs` are changed fields that stay as they were."""
         if differs:
             self.say(f"these stay as they were until the front is started again: {', '.join(differs)}")
         if "certificate" in differs:
@@ -59,12 +59,12 @@ class Reload:
         self.look_at_certificate()
 
     def look_at_certificate(self) -> None:
-        """Says when it ends, if that is soon."""
+        """Warns if the certificate ends soon."""
         if self.terms.certificate and (said := self.terms.certificate.says(time.time())):
             self.say(said)
 
     async def keep_looking_at_certificate(self) -> None:
-        """At the start, and daily."""
+        """Looks at the certificate at the start, and then daily."""
         while self.terms.certificate:
             self.look_at_certificate()
             await asyncio.sleep(LOOK_SECONDS)

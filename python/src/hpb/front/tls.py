@@ -1,7 +1,7 @@
 """TLS of a front's connections: the costly part of it is done by a thread that gives way to bidders (docs/FRONT.md).
 
-A handshake costs a signature. Each is done by one thread, step by step: addresses take turns, one address has so many a second, and all
-together have so many. What comes afterwards is cheap, and is done where the lines are read.
+A handshake costs a signature. One thread does all handshakes, step by step. Addresses take turns, and the number of handshakes per second
+is limited, for each address and for all together. The rest of TLS is cheap, and the event loop does it.
 """
 import asyncio
 import collections
@@ -14,17 +14,17 @@ import time
 from collections.abc import Callable
 from typing import Protocol
 
-# A client's part of a handshake is some hundred bytes, or some thousands with what it may send along.
+# The client's part of a handshake has some hundred bytes, or a few thousand with the data that it may send along.
 MOST_HANDSHAKE = 65_536
 MOST_READ = 65_536
-# How much lower than the others the thread stands with the system's scheduler.
+# By so much the thread's priority is lower than that of the others (nice).
 NICE = 10
-# All handshakes of so many seconds may come at once.
+# So many seconds' worth of handshakes may come at once.
 AHEAD_SECONDS = 0.25
 
 
 class Inner(Protocol):
-    """What reads and writes in clear: an asyncio.Protocol, which is told why TLS has ended."""
+    """Reads and writes in clear: an asyncio.Protocol that also learns why TLS has ended."""
 
     def connection_made(self, transport: "Tls") -> None: ...
     def connection_lost(self, fault: Exception | None) -> None: ...
@@ -36,7 +36,7 @@ class Inner(Protocol):
 
 
 class Handshakes:
-    """The steps of handshakes that wait, and the thread that does one after the other."""
+    """The handshakes that wait for their next step, and the thread that does these steps one after the other."""
 
     def __init__(self, per_second: float, fail: Callable[[str], None]) -> None:
         self.per_second, self.fail = per_second, fail
@@ -51,12 +51,12 @@ class Handshakes:
         self.thread.start()
 
     def add(self, one: "Tls") -> None:
-        """One has come whose next step can be done."""
+        """Adds a handshake whose next step can be done."""
         self.waiting.setdefault(one.address, collections.deque()).append(one)
         self.go_on()
 
     def go_on(self) -> None:
-        """Hands the next step to the thread, if it is free; addresses take turns."""
+        """Hands the thread its next step, if it is free. Addresses take turns."""
         if self.at_work or not self.waiting:
             return
         self.at_work = True
@@ -86,11 +86,11 @@ class Handshakes:
         return one
 
     def keep_working(self) -> None:
-        # It gives way as far as the system lets it.
+        # It gives way to the other threads, as far as the system allows that.
         with contextlib.suppress(OSError):
             os.setpriority(os.PRIO_PROCESS, threading.get_native_id(), NICE)
         while True:
-            # Whatever fails is told: without this thread nobody is let in any more.
+            # Any failure is reported to the front: without this thread nobody is let in any more.
             try:
                 one = self.steps.get()
                 self.loop.call_soon_threadsafe(self.done, one, one.step())
@@ -106,25 +106,25 @@ class Handshakes:
 
 
 class Outcome:
-    """Of a step: the handshake is done, or it needs more from the client, or it has failed."""
+    """The result of a step: the handshake is done, needs more from the client, or has failed."""
 
     def __init__(self, is_up: bool, fault: str = "") -> None:
         self.is_up, self.fault = is_up, fault
 
 
 class Tls(asyncio.Protocol):
-    """TLS between the transport of a connection and whoever reads and writes in clear, for whom it is the transport."""
+    """TLS between a connection's transport and the protocol that reads and writes in clear. For that protocol, it is the transport."""
 
     def __init__(self, inner: Inner, context: ssl.SSLContext, handshakes: Handshakes, address: str) -> None:
         self.inner, self.handshakes, self.address = inner, handshakes, address
         self.incoming, self.outgoing = ssl.MemoryBIO(), ssl.MemoryBIO()
         self.object = context.wrap_bio(self.incoming, self.outgoing, server_side=True)
         self.transport: asyncio.Transport | None = None
-        # What has come and isn't decrypted, as long as the handshake lasts; whether a step of it is being done.
+        # The bytes that came during the handshake and aren't decrypted yet; and whether a step of it is being done.
         self.raw, self.is_busy, self.is_up, self.steps = bytearray(), False, False, 0
         self.began = time.monotonic()
 
-    # As the protocol of the transport.
+    # Calls of the transport.
 
     def connection_made(self, transport: asyncio.BaseTransport) -> None:
         assert isinstance(transport, asyncio.Transport)
@@ -165,11 +165,11 @@ class Tls(asyncio.Protocol):
         self.handshakes.add(self)
 
     def is_first_step(self) -> bool:
-        """The costly one."""
+        """The costly step."""
         return self.steps == 0
 
     def step(self) -> Outcome:
-        """In the thread of handshakes; nothing else touches the handshake meanwhile."""
+        """Runs in the thread of handshakes. Nothing else uses the handshake meanwhile."""
         try:
             self.object.do_handshake()
         except ssl.SSLWantReadError:
@@ -197,7 +197,7 @@ class Tls(asyncio.Protocol):
     def end_badly(self, why: str) -> None:
         self.inner.tls_failed(why)
         if self.transport:
-            # What it is told of the fault is a few bytes: they are sent at once, or not at all.
+            # TLS has an alert of a few bytes for the client: it is sent at once, or not at all.
             self.transport.close()
 
     # In clear.
@@ -219,7 +219,7 @@ class Tls(asyncio.Protocol):
         if self.transport and self.outgoing.pending and not self.transport.is_closing():
             self.transport.write(self.outgoing.read())
 
-    # As the transport of whoever is in clear.
+    # Calls of the protocol in clear.
 
     def write(self, data: bytes) -> None:
         try:
@@ -240,7 +240,7 @@ class Tls(asyncio.Protocol):
             self.transport.resume_reading()
 
     def close(self) -> None:
-        """Says that it ends, and does."""
+        """Tells the client that TLS ends, and ends it."""
         if not self.transport or self.transport.is_closing():
             return
         if self.is_up:

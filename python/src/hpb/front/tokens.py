@@ -1,4 +1,4 @@
-"""The tokens of a front: which name has which, and the file that they stand in (docs/FRONT.md)."""
+"""The tokens of a front: which name has which token, and the file of tokens (docs/FRONT.md)."""
 import contextlib
 import hashlib
 import hmac
@@ -13,19 +13,19 @@ from hpb.front.change import Busy, InTheWay, NewFile, changing
 from hpb.front.faults import Wrong
 
 TOKEN = re.compile(r"[!-~]{16,128}")
-# A token of which the file has the digest alone, and a name that has none, by intent.
+# The two forms in a line: a token's digest, or the word for a name that has no token on purpose.
 DIGEST = re.compile(r"sha256:([0-9a-f]{64})")
 NONE = "-"
 TOKEN_BYTES = 24
-# A line that a change writes.
+# A line as a change of the file writes it.
 CHANGED = re.compile(rb"[a-z0-9_]{1,16} (-|sha256:[0-9a-f]{64})")
-# So many digits of a token's digest are its id: enough to tell tokens from one another, and nothing to sign in by.
+# A token's id is so many digits of its digest: enough to tell tokens apart, and no help to sign in.
 ID_DIGITS = 12
 
 
 @dataclass(frozen=True)
 class Token:
-    """Whose it is, and its SHA-256."""
+    """The name that has the token, and the token's SHA-256."""
 
     name: str
     digest: bytes
@@ -36,7 +36,7 @@ class Token:
 
 
 class Tokens:
-    """Which name has which token. Of each only a digest is kept."""
+    """All tokens, and the name of each. Only their digests are kept."""
 
     def __init__(self, text: str, names: Collection[str]) -> None:
         self.known: list[Token] = []
@@ -49,7 +49,7 @@ class Tokens:
                 raise Wrong(f"tokens: {name} has none; a line `{name} {NONE}` says that this is meant")
 
     def add(self, words: list[str], names: Collection[str], where: str) -> str:
-        """Takes a line's words, and gives the name."""
+        """Adds a line's token, and returns its name."""
         if len(words) != 2 or words[0] not in names:
             raise Wrong(f"{where}: it isn't a name of the configuration and its token")
         if words[1] != NONE:
@@ -60,12 +60,12 @@ class Tokens:
         return words[0]
 
     def text(self, names: Collection[str]) -> str:
-        """A file of these tokens, each by its digest."""
+        """The text of a file with these tokens, each by its digest."""
         lines = [f"{token.name} sha256:{token.digest.hex()}" for token in self.known] + [f"{name} {NONE}" for name in self.silent(names)]
         return "".join(f"{line}\n" for line in lines)
 
     def find(self, said: bytes) -> Token | None:
-        """The one that is said. It takes the same time whosever it is, and however much of it is right."""
+        """Finds the token that a client has sent. The time is the same for each known token, and however many characters are right."""
         digest, found = digest_of(said), None
         for token in self.known:
             if hmac.compare_digest(digest, token.digest):
@@ -77,7 +77,7 @@ class Tokens:
         return token.name if token else None
 
     def silent(self, names: Collection[str]) -> list[str]:
-        """Names that nobody can sign in by."""
+        """The names without a token."""
         return [name for name in names if name not in {token.name for token in self.known}]
 
 
@@ -86,7 +86,7 @@ def is_entry(line: str) -> bool:
 
 
 def digest_in(word: str, where: str) -> bytes:
-    """The digest of a token that stands in a line, or that stands there itself."""
+    """The digest that a line has, or the digest of the token that it has."""
     if found := DIGEST.fullmatch(word):
         return bytes.fromhex(found[1])
     if not TOKEN.fullmatch(word):
@@ -100,13 +100,13 @@ def digest_of(token: bytes) -> bytes:
 
 @dataclass(frozen=True)
 class TokenFile:
-    """The file, which is changed as a whole: whoever reads it meanwhile reads the old one or the new one."""
+    """The file of tokens. It is changed as a whole, so a reader gets either the old file or the new one."""
 
     path: str
     names: Collection[str]
 
     def make(self) -> None:
-        """A new file with a token for each name."""
+        """Makes a new file with a token for each name."""
         with self.change() as new:
             new.write("".join(f"{name} {new_token()}\n" for name in self.names))
             new.take_free_place()
@@ -115,7 +115,7 @@ class TokenFile:
         return Tokens(read_private(self.path), self.names)
 
     def add(self, name: str) -> tuple[Token, str]:
-        """A new token of a name, which is shown here and nowhere else: the file has its digest."""
+        """Adds a token for a name, and returns it in clear. It is shown this once, since the file has only its digest."""
         if name not in self.names:
             raise Wrong(f"tokens: {name} is no name of the configuration")
         text = new_token()
@@ -126,7 +126,7 @@ class TokenFile:
         return token, text
 
     def revoke(self, id: str) -> Token:
-        """Takes the token of an id out. A name whose last one it was is said to have none."""
+        """Removes the token with this id. If it was the last one of its name, the file says that the name has none."""
         with self.change() as new:
             lines = self.lines()
             token = self.token_of(id, lines)
@@ -137,26 +137,27 @@ class TokenFile:
         return token
 
     def token_of(self, id: str, lines: list[str]) -> Token:
-        """That of these lines which has this id."""
+        """The one of these lines whose token has this id."""
         found = [token for token in Tokens("\n".join(lines), self.names).known if token.id == id]
         if len(found) != 1:
             raise Wrong(f"tokens: {'no token has' if not found else 'several tokens have'} the id {id}; `tokens list` shows all")
         return found[0]
 
     def lines(self) -> list[str]:
-        """Those of a file that is right."""
+        """The lines of the file, after checking it."""
         text = read_private(self.path)
         Tokens(text, self.names)
         return text.splitlines()
 
     def replace(self, new: NewFile, lines: list[str]) -> None:
-        """Puts a new file in the place of the old one, whose owner it has."""
+        """Puts a new file in the place of the old one, with the same owner."""
         new.write("".join(f"{line}\n" for line in lines), os.stat(self.path))
         new.take_place()
 
     @contextlib.contextmanager
     def change(self) -> Iterator[NewFile]:
-        """The new file of a change: what is read within is what the change goes on from. A Wrong says why there is none."""
+        """The new file of a change. Read the old file within it, because nobody else changes the file meanwhile. A Wrong says why no change
+        is possible."""
         try:
             with changing(self.path, self.is_rest) as new:
                 yield new
@@ -166,8 +167,8 @@ class TokenFile:
             raise Wrong(f"tokens: {fault.filename2 or fault.filename or self.path}: {fault.strerror or fault}") from None
 
     def is_rest(self, data: bytes) -> bool:
-        """Whether a change that was killed left this: nothing, or lines of the file with digests besides. A file that somebody prepares has
-        other tokens."""
+        """Whether a killed change may have left this: it is empty, or has only lines of the file and lines with digests. If somebody
+        prepared the file by hand, it has other tokens."""
         try:
             with open(self.path, "rb") as file:
                 known = set(file.read().splitlines())
@@ -186,7 +187,7 @@ def new_token() -> str:
 
 
 def read_private(path: str) -> str:
-    """The text of a file that nobody but its owner may read, who is the user or root."""
+    """The text of a private file. It has to belong to this user or root, and nobody else may read it. Else a Wrong says so."""
     try:
         with open(os.open(path, os.O_RDONLY | os.O_NONBLOCK | os.O_CLOEXEC), encoding="utf-8") as file:
             status = os.fstat(file.fileno())

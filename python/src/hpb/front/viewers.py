@@ -2,9 +2,11 @@
 
     python3 -m hpb.front.viewers CONFIG DESCRIPTOR GIVEN
 
-Its standard input is a connection to the front, on which it asks questions; DESCRIPTOR is a socket that listens, and GIVEN a file in which
-the front has put what it has of the configuration CONFIG, of tokens and certificate. It writes `BOARD` and the address of the page once it
-can be opened, then a line of JSON for each request, and ends when the front does. docs/BOARD.md says who sees what.
+Standard input is a connection to the front, over which it asks questions. DESCRIPTOR is a listening socket. GIVEN is a file in which the
+front has put the parts of the configuration CONFIG, of the tokens and of the certificate that the page needs.
+
+Once the page can be opened, it writes `BOARD` and the page's address, and then a line of JSON for each request. It ends when the front
+does. docs/BOARD.md says who sees what.
 """
 import os
 import signal
@@ -21,25 +23,25 @@ from hpb.pages.view import State, View
 from hpb.pages.walls import Known, Wall
 from hpb.refusals import HpbError, says
 
-# How much lower than the front it stands with the system's scheduler: viewers wait rather than those who bid.
+# By so much the page's priority is lower than the front's (nice): viewers wait, and bidders don't.
 NICE = 5
 
 
 def front_connection(patience: float) -> socket.socket:
-    """The connection to the front, on which an answer is waited for so many seconds."""
+    """The connection to the front. An answer has to come within so many seconds."""
     connection = socket.socket(fileno=os.dup(0))
     connection.settimeout(patience)
     return connection
 
 
 def known_of(given: Given, view: View) -> Known:
-    """Each name's wall, with the bidders that it may ask about."""
+    """A wall for each name, which shows the bidders about whom the name may ask."""
     tree = given.tree
     return Known(given.tokens, {name: Wall(tree, role.seen(tree), view, given.viewers, name) for name, role in given.roles.items()})
 
 
 def followed(follower: Follower) -> None:
-    """A page that doesn't follow any more ends, and the front starts it again."""
+    """If the page can't follow the auction any more, the process ends, and the front starts it again."""
     try:
         follower.follow()
         if follower.view.contact.state == State.OVER:
@@ -47,12 +49,12 @@ def followed(follower: Follower) -> None:
         end("the front is gone")
     except HpbError as fault:
         end(says(fault))
-    except BaseException as fault:  # Whatever it is: a page that stands still in silence would be worse.
+    except BaseException as fault:  # Any fault at all: a page that stops changing without a word would be worse.
         end(f"following ended: {fault!r}")
 
 
 def end(text: object) -> None:
-    """Says it, and ends the process."""
+    """Writes the reason, and ends the process."""
     try:
         print(f"board: {text}", file=sys.stderr, flush=True)
     finally:

@@ -1,7 +1,7 @@
 """Signals to a front, and the limit after which it ends whatever hangs (docs/FRONT.md).
 
-Two threads do nothing else: one takes signals, the other ends the process where the rest doesn't do so in time. So a loop that is held up by
-a disk, by a program that doesn't start or by a want of memory is ended as well.
+Two threads do nothing else: one takes signals, and the other ends the process if the rest doesn't end it in time. So a loop is ended even
+if a disk, a program that doesn't start or a lack of memory holds it up.
 """
 import asyncio
 import contextlib
@@ -15,7 +15,7 @@ from hpb.front.words import cry
 
 STOPS = (signal.SIGTERM, signal.SIGINT)
 SIGNALS = {*STOPS, signal.SIGHUP}
-# From the signal, or the failure, to the end of the process.
+# Seconds from the signal, or from the failure, to the end of the process.
 END_SECONDS = 9.5
 FAILED = 1
 PAUSE = 0.05
@@ -23,21 +23,22 @@ ATTEMPTS = 20
 
 
 def hold_signals() -> None:
-    """They wait for `Watch`. It has to come before the first thread, since threads have the mask of those that start them."""
+    """Blocks the signals, so that they wait for `Watch`. Call it before the first thread starts, since a thread has the signal mask of the
+    one that starts it."""
     signal.pthread_sigmask(signal.SIG_BLOCK, SIGNALS)
-    # By `stty tostop` a terminal stops whoever writes to it from the background.
+    # After `stty tostop`, a terminal would stop a background process that writes to it.
     signal.signal(signal.SIGTTOU, signal.SIG_IGN)
 
 
 def free_signals() -> None:
-    """In a child, before another program takes its place."""
+    """Unblocks the signals in a child, before it runs another program."""
     signal.pthread_sigmask(signal.SIG_UNBLOCK, SIGNALS)
 
 
 class Watch:
-    """Tells a loop to stop or to reload, and ends the process when that takes too long.
+    """Makes a loop stop or reload at a signal, and ends the process if stopping takes too long.
 
-    Before a loop is attached a stop and a reload are kept for it.
+    Signals that come before a loop is attached are kept for it.
     """
 
     def __init__(self) -> None:
@@ -53,7 +54,7 @@ class Watch:
             thread.start()
 
     def attach(self, loop: asyncio.AbstractEventLoop, stop: Callable[[], None], reload: Callable[[], None]) -> None:
-        """From here on `stop` and `reload` are called in the loop."""
+        """From now on signals call `stop` and `reload` in the loop."""
         with self.lock:
             self.loop, self.stop, self.reload = loop, stop, reload
             if self.is_told:
@@ -63,7 +64,7 @@ class Watch:
 
     def take_signals(self) -> None:
         while True:
-            # Whatever fails, the thread goes on: without it the front couldn't be ended but by SIGKILL.
+            # Whatever fails, the thread goes on: without it, only SIGKILL could end the front.
             with contextlib.suppress(Exception):
                 self.take(signal.sigwait(SIGNALS))
 
@@ -72,7 +73,7 @@ class Watch:
             self.is_told = True
             self.armed.set()
         for _ in range(ATTEMPTS):
-            # A want of memory may pass; a loop that is closed needs nothing.
+            # A lack of memory may pass. A closed loop needs no signals.
             try:
                 self.call(number)
                 return
@@ -92,5 +93,5 @@ class Watch:
         os._exit(FAILED)
 
     def arm(self) -> None:
-        """The process ends within the limit from now on, whatever happens."""
+        """From now on the process ends within the limit, whatever happens."""
         self.armed.set()

@@ -9,16 +9,16 @@ from collections.abc import Callable
 
 from hpb.streams import STANDARD_ERROR, STANDARD_OUTPUT, write_all
 
-# So many lines wait to be read, as where a terminal was stopped by Ctrl-S; what comes then is counted.
+# So many lines wait for a reader, who may have stopped the terminal by Ctrl-S. Lines beyond that are only counted.
 MOST_UNREAD = 1_000
-# How long the last of them may still be read.
+# Seconds in which the last of them may still be read.
 READ_SECONDS = 2.0
 POLL_SECONDS = 0.02
 
 
 class Writer:
-    """Writes lines to a stream in a thread of its own: nobody has to read them, and who bids doesn't wait until somebody does. `warn` is
-    told of the first line that can't be written."""
+    """Writes lines to a stream in a thread of its own, so that bidders don't wait for whoever reads the stream. `warn` gets the error of
+    the first line that can't be written."""
 
     def __init__(self, stream: int, warn: Callable[[OSError], None] = lambda fault: None) -> None:
         self.stream, self.left_out, self.warn, self.has_failed = stream, 0, warn, False
@@ -33,7 +33,7 @@ class Writer:
 
     def keep_writing(self) -> None:
         while True:
-            # Whatever fails, the thread goes on: else nothing would be told any more.
+            # Whatever fails, the thread goes on: if it ended, nothing more would be written.
             with contextlib.suppress(Exception):
                 self.write_next()
 
@@ -51,7 +51,7 @@ class Writer:
             self.lines.task_done()
 
     def end(self, seconds: float) -> None:
-        """Waits until all is read, so long at most. If the thread was never started it is written here."""
+        """Waits at most so many seconds until all lines are read. If the thread was never started, the lines are written here."""
         end = time.monotonic() + seconds
         while not self.thread.ident and self.lines.qsize():
             self.write_next()
@@ -60,7 +60,7 @@ class Writer:
 
 
 class Teller:
-    """What a front says on standard error, and tells on standard output."""
+    """The front's output: messages on standard error, and results on standard output."""
 
     def __init__(self) -> None:
         self.errors, self.output = Writer(STANDARD_ERROR), Writer(STANDARD_OUTPUT, self.warn)
@@ -71,25 +71,25 @@ class Teller:
         self.output.thread.start()
 
     def say(self, text: object) -> None:
-        """On standard error."""
+        """Writes a message on standard error."""
         self.errors.add(f"front: {text}")
 
     def tell(self, text: str) -> None:
-        """On standard output."""
+        """Writes a line on standard output."""
         self.output.add(text)
 
     def warn(self, fault: OSError) -> None:
         self.say(f"standard output can't be written: {fault.strerror}")
 
     def end(self) -> bool:
-        """Waits until all is read, two seconds at most. Whether standard output took what was told."""
+        """Waits until all is read, two seconds at most. The result is whether all lines for standard output could be written."""
         self.output.end(READ_SECONDS / 2)
         self.errors.end(READ_SECONDS / 2)
         return not self.output.has_failed
 
 
 def cry(data: bytes) -> None:
-    """Writes last words on standard error, as far as they can be written at once: nothing else is sure to work any more."""
+    """Writes last words on standard error, if that doesn't block: nothing else is sure to work any more."""
     with contextlib.suppress(Exception):
         if select.select([], [STANDARD_ERROR], [], 0)[1]:
             os.write(STANDARD_ERROR, data)

@@ -1,7 +1,7 @@
 """The record of a front: entries of one line each, each of which names the hash of the one before, in segments (docs/FRONT.md).
 
-`read_record` and `record_entries` read one, all its segments in order, and raise `Damaged` where it isn't as a front wrote it.
-`RecordFile` is the record that a front goes on with.
+`read_record` and `record_entries` read a record, all its segments in order. They raise `Damaged` if it isn't as a front wrote it.
+`RecordFile` is the record to which a running front adds entries.
 """
 from collections.abc import Iterator
 from os import PathLike
@@ -21,12 +21,12 @@ __all__ = [
 
 
 def record_entries(path: str | PathLike[str]) -> Iterator[tuple[Entry, Place]]:
-    """Each entry of a record, with the place behind it."""
+    """Reads each entry of a record, with the place behind it."""
     return Reader(str(path)).entries()
 
 
 def read_record(path: str | PathLike[str]) -> tuple[list[Entry], Place]:
-    """All entries of a record, and the place behind the last."""
+    """Reads all entries of a record, and gives the place behind the last one."""
     entries, place = [], Place()
     for entry, place in record_entries(path):
         entries.append(entry)

@@ -1,8 +1,10 @@
-"""What stands beside a record, in `auction.record.asked`: the commands that the server may have been told and that have no answer yet, and
-how far the record is known to be on the disk (docs/FRONT.md).
+"""The file beside a record, `auction.record.asked` (docs/FRONT.md).
 
-The file has places of 1,024 bytes, each a sealed line filled up with spaces. The first names the last entry that was synced; each of the
-others has a command, and is used again once that is answered. So the file stays as small as the commands that wait at one time.
+It has the commands without an answer that may have been sent to the server. It also says how far the record is known to be on the disk.
+
+The file is made of places of 1,024 bytes, each a sealed line filled up with spaces. The first place names the last entry that was synced.
+Each other place holds a command, and is free again once that command is answered. So the file needs only as many places as commands wait at
+one time.
 """
 import os
 from typing import NamedTuple
@@ -16,21 +18,21 @@ EMPTY = bytes(PLACE_BYTES)
 
 
 class Mark(NamedTuple):
-    """An entry that was on the disk, and the first entry of its record."""
+    """The last entry that is known to be on the disk, and the hash of the record's first entry."""
 
     synced: Place
     first: str = NO_HASH
 
 
 class Asked(NamedTuple):
-    """A command that the server may have been told."""
+    """A command that may have been sent to the server."""
 
     name: str
     line: bytes
 
 
 def filled(fields: Entry) -> bytes:
-    """A place that has these fields."""
+    """The bytes of a place with these fields. A ValueError says that they are too long."""
     line = sealed(json_of(fields))
     if len(line) > PLACE_BYTES:
         raise ValueError(f"{len(line)} bytes don't go into a place of {PLACE_BYTES}")
@@ -38,7 +40,7 @@ def filled(fields: Entry) -> bytes:
 
 
 def fields_of(place: bytes) -> Entry:
-    """What a place has: nothing where it was never written, or a crash tore it while it was."""
+    """The fields of a place. There are none if it was never written, or if a crash tore its last write."""
     line = place.rstrip(b" \n") + b"\n"
     if len(line) <= HASH_BYTES or not is_sealed(line):
         return {}
@@ -50,7 +52,7 @@ def fields_of(place: bytes) -> Entry:
 
 
 class AskedFile:
-    """The file beside a record. Whoever has the record's lock has this one, too."""
+    """The file beside a record. The record's lock protects this file, too."""
 
     def __init__(self, record: str) -> None:
         self.path = f"{record}.asked"
@@ -62,7 +64,7 @@ class AskedFile:
         return [fields_of(data[at : at + PLACE_BYTES]) for at in range(0, len(data), PLACE_BYTES)]
 
     def mark(self) -> Mark:
-        """How far the record was on the disk, as far as that is known."""
+        """How far the record is known to be on the disk."""
         places = self.places()
         fields = places[0] if places else {}
         try:
@@ -71,18 +73,19 @@ class AskedFile:
             return Mark(Place())
 
     def left(self) -> list[Asked]:
-        """The commands that stand there. Those that are in the record, or were refused, may be among them."""
+        """The commands in the file. Some of them may be in the record already, or may have been refused."""
         return [Asked(fields["name"], fields["line"].encode("latin-1")) for fields in self.places()[1:] if "line" in fields]
 
     def note(self, synced: Place) -> None:
-        """Notes that this entry is on the disk. The note itself is there by the next sync: until then less is known, and nothing wrong."""
+        """Notes that this entry is on the disk. The note itself is there after the next sync. Until then the file says less than is true,
+        but nothing wrong."""
         if synced.number == 1:
             self.first = synced.hash
         fields = {"form": FORM, "entry": synced.number, "hash": synced.hash, "first": self.first}
         write_at(self.file, filled(fields), 0)
 
     def put(self, places: dict[int, Asked | None]) -> None:
-        """Fills these places, counted from 0, or empties them. What is put there is on the disk when this returns."""
+        """Fills these places, counted from 0, or empties them. Filled places are on the disk when this returns."""
         for number, asked in places.items():
             place = filled({"name": asked.name, "line": text_of(asked.line), "at": time_now()}) if asked else EMPTY
             write_at(self.file, place, (1 + number) * PLACE_BYTES)
@@ -90,7 +93,7 @@ class AskedFile:
             self.sync()
 
     def clear(self) -> None:
-        """Empties all places of commands, once each is in the record or is known not to be in the file."""
+        """Empties all places, after each command is in the record or is known not to be in the auction's file."""
         if os.fstat(self.file).st_size > PLACE_BYTES:
             os.ftruncate(self.file, PLACE_BYTES)
             self.sync()
@@ -103,7 +106,7 @@ class AskedFile:
         os.fdatasync(self.file)
 
     def data(self) -> bytes:
-        """All that stands in the file."""
+        """The whole file, place by place."""
         return os.pread(self.file, os.fstat(self.file).st_size, 0)
 
     def close(self) -> None:

@@ -1,32 +1,32 @@
-"""Entries of a record: a line each, that begins with its hash and names the hash of the entry before (docs/FRONT.md)."""
+"""Entries of a record: each is a line that begins with its hash and names the hash of the entry before (docs/FRONT.md)."""
 import hashlib
 import json
 import time
 from collections.abc import Iterator
 from typing import Any, BinaryIO, NamedTuple
 
-# That of records whose entries stand in one file, with questions among them; and of those in segments.
+# The first form has all entries in one file, with questions among them. The second form has segments.
 FIRST_FORM, FORM = 1, 2
 NO_HASH = "0" * 64
 HASH_BYTES = len(NO_HASH)
 OK = "OK "
 MEGABYTE = 1_000_000
-# No entry is longer, in bytes; what is, isn't read into memory.
+# No entry is longer, in bytes. Of a longer line only so much is read into memory.
 MOST_ENTRY = 2 * MEGABYTE
-# No write has more bytes, but one that has one entry alone.
+# No write has more bytes, unless it has a single entry.
 MOST_WRITE = 65_536
-# What stands behind the hash of the first entry.
+# The beginning of a record's first entry, after the hash.
 FIRST = b' {"entry":1,"before":"' + NO_HASH.encode()
 
 Entry = dict[str, Any]
 
 
 class Damaged(Exception):
-    """A record that isn't as a front wrote it."""
+    """The record isn't as a front wrote it."""
 
 
 class WrongSegment(Damaged):
-    """A segment before the last is missing, or isn't the one that the next names."""
+    """A segment before the last is missing, or differs from the one that the next segment names."""
 
 
 class InTheWay(WrongSegment):
@@ -41,14 +41,14 @@ class InUse(Exception):
 
 
 class Place(NamedTuple):
-    """Where a record ends: the number of its last entry, and its hash."""
+    """A place in a record: the number of the entry before it, and that entry's hash."""
 
     number: int = 0
     hash: str = NO_HASH
 
 
 class New(NamedTuple):
-    """An entry that is still to be written, and the time at which it came."""
+    """An entry that isn't written yet, and the time at which it came."""
 
     kind: str
     fields: Entry
@@ -65,7 +65,7 @@ def is_sealed(line: bytes) -> bool:
 
 
 def content_of(line: bytes) -> Any:
-    """What stands in a sealed line. A Damaged says that it is no object of JSON."""
+    """The object in a sealed line. A Damaged says that it isn't an object of JSON."""
     try:
         content = json.loads(line[HASH_BYTES + 1 :])
     except (ValueError, RecursionError):
@@ -80,8 +80,8 @@ def json_of(fields: Entry) -> bytes:
 
 
 def entry_line(place: Place, kind: str, fields: Entry, at: str | None = None, synced: int | None = None) -> tuple[bytes, Place]:
-    """The line of the entry behind this place, and the place behind it. `synced` is the number of the last entry that is on the disk by
-    then; entries of the first form name none."""
+    """The line of the next entry after `place`, and the place behind it. `synced` is the number of the last entry on the disk at that time.
+    Entries of the first form don't have it."""
     entry = {"entry": place.number + 1, "before": place.hash}
     if synced is not None:
         entry["synced"] = synced
@@ -96,12 +96,12 @@ def time_now() -> str:
 
 
 def text_of(line: bytes) -> str:
-    """A line of any bytes as a text, each byte a character."""
+    """The bytes of a line as a text, with a character for each byte."""
     return line.decode("latin-1")
 
 
 def read_entry(line: bytes, place: Place) -> Entry:
-    """The entry of a line that stands behind this place. A Damaged says why it is none."""
+    """Reads the line of the next entry after `place`. A Damaged says why the line isn't that entry."""
     if not line.endswith(b"\n"):
         raise Damaged("it is cut short")
     if not is_sealed(line):
@@ -121,7 +121,7 @@ def place_of(line: bytes, entry: Entry) -> Place:
 
 
 def entries_of(file: BinaryIO, place: Place = Place()) -> Iterator[tuple[Entry, Place]]:
-    """Each entry of an open file, with the place behind it. A Damaged names the first that isn't as a front wrote it."""
+    """Reads each entry of an open file, with the place behind it. A Damaged names the first one that isn't as a front wrote it."""
     while line := file.readline(MOST_ENTRY):
         try:
             entry = read_entry(line, place)

@@ -1,4 +1,5 @@
-"""The record that a front goes on with: its last segment, what a crash left torn at its end, and the next segment (docs/FRONT.md)."""
+"""The record to which a running front adds entries: its last segment, the torn end that a crash may leave, and the next segment
+(docs/FRONT.md)."""
 import fcntl
 import hashlib
 import os
@@ -21,11 +22,11 @@ HOW = os.O_RDWR | os.O_APPEND
 
 
 class RecordFile:
-    """A record that entries are added to. `place` is the last entry that is on the disk, and `state` what all up to it come to."""
+    """A record to which entries are added. `place` is behind the last entry on the disk, and `state` is the auction's state there."""
 
     def __init__(self, path: str, most_segment: int = MOST_SEGMENT) -> None:
-        """Takes the record's lock, and makes the record where there is none. An InUse says that another front has it, a WrongSegment that
-        one is missing, and an OSError that somebody else owns it or may write it."""
+        """Takes the record's lock, and makes the record if there is none. An InUse says that another front has it. A WrongSegment says that
+        a segment is missing. An OSError may say that somebody else owns the record or may write it."""
         self.path, self.most_segment = str(path), most_segment
         paths = segment_paths(self.path)
         self.lock = open_own(self.path, HOW, may_make=not paths)
@@ -46,8 +47,8 @@ class RecordFile:
     # The start.
 
     def open(self, may_set_aside: bool = False) -> Entry | None:
-        """Reads the last segment, and compares the seals of those before. What a crash left torn is set aside; its length and the file that
-        it is put into, or nothing. A Damaged says what was changed, is missing, or belongs to something else."""
+        """Reads the last segment, and compares the seals of those before it. If a crash left a torn end, sets it aside, and returns its
+        length and the file that holds it now. A Damaged says which part was changed, is missing, or belongs to another record."""
         paths, mark = segment_paths(self.path), self.asked.mark()
         for path in paths:
             look_at_owner(path, os.stat(path))
@@ -70,7 +71,8 @@ class RecordFile:
         return self.set_aside(torn) if torn else None
 
     def read_segment(self, path: str, mark: Mark) -> tuple[str, str]:
-        """The hash of the entry that is marked, where it stands there, and why the entry behind the whole ones isn't whole."""
+        """Reads the last segment's whole entries. Gives the hash of the marked entry, if this segment has it, and the fault of the first
+        entry that isn't whole, if there is one."""
         self.place = head_of(path)[1] if self.segment > 1 else Place()
         marked = fault = ""
         with open(path, "rb") as file:
@@ -85,7 +87,8 @@ class RecordFile:
         return marked, fault
 
     def look_behind(self, path: str, fault: str) -> None:
-        """A crash tears what was written last and not synced. A Damaged says that what stands behind the whole entries isn't that."""
+        """Checks the bytes after the whole entries: a crash can tear only the last write, before it is synced. If they show anything else,
+        a Damaged says so."""
         with open(path, "rb") as file:
             if not self.place.number and not may_be_first(file.read(HASH_BYTES + len(FIRST))):
                 raise Damaged("entry 1 isn't one: is it another file?")
@@ -94,7 +97,7 @@ class RecordFile:
                 raise Damaged(f"{fault}; what stands behind it shows that it was on the disk, so it was changed")
 
     def look_at_mark(self, mark: Mark, marked: str) -> None:
-        """Whether the record is the one that was synced, as far as the file beside it knows."""
+        """Checks that the record has the entry that was synced last, as far as the file beside it says. If not, a Damaged says why."""
         name = os.path.basename(self.path)
         if self.place.number and mark.synced.number and mark.first != first_hash(self.path):
             raise Damaged(f"{os.path.basename(self.asked.path)} belongs to another record than {name}")
@@ -105,7 +108,7 @@ class RecordFile:
             raise Damaged(f"entry {mark.synced.number} isn't the one that was on the disk: {name} is another copy")
 
     def take_asked(self, mark: Mark) -> None:
-        """Goes on with the file beside the record. One that belongs to another record is set aside."""
+        """Goes on with the file beside the record. If that file belongs to another record, it is set aside."""
         first = first_hash(self.path) if self.place.number else NO_HASH
         if mark.synced.number and mark.first != first:
             write_aside(self.asked.path, [self.asked.data()])
@@ -115,14 +118,14 @@ class RecordFile:
             self.asked.note(self.place)
 
     def set_aside(self, torn: int) -> Entry:
-        """Puts what stands behind the whole entries into a file of its own."""
+        """Moves the bytes after the whole entries into a file of their own."""
         aside = write_aside(self.path, self.pieces(self.length))
         os.ftruncate(self.file, self.length)
         os.fsync(self.file)
         return {"bytes": torn, "aside": os.path.basename(aside)}
 
     def pieces(self, at: int) -> Iterator[bytes]:
-        """What stands in the last segment from there on."""
+        """The bytes of the last segment from there on."""
         while piece := os.pread(self.file, MEGABYTE, at):
             at += len(piece)
             yield piece
@@ -130,12 +133,12 @@ class RecordFile:
     # Entries.
 
     def write(self, entries: Sequence[New]) -> None:
-        """Adds entries by one write. They are on the disk when this returns. An OSError says that they may be there or not: the record is
-        then opened anew before anything is added."""
+        """Adds entries by one write. They are on the disk when this returns. After an OSError they may be there or not, so the record has
+        to be opened again before anything is added."""
         if self.needs_segment():
             self.begin_segment()
         self.add(entries)
-        # A segment whose successor finds its name taken goes on; the next start says so.
+        # If another file has the next segment's name, this segment goes on. The next start reports it.
         if self.length >= self.most_segment and not os.path.lexists(segment_path(self.path, self.segment + 1)):
             self.add([New("sealed", {"bytes": self.length, "sha256": self.digest.hexdigest()}, time_now())])
             self.begin_segment()
@@ -162,11 +165,11 @@ class RecordFile:
         self.add([New("begin", {"form": FORM, "segment": 1, "definition": definition, **state}, time_now())])
 
     def needs_segment(self) -> bool:
-        """Whether the last one is sealed, or is that of another form, to which nothing is added."""
+        """Whether nothing may be added to the last segment: it is sealed, or has another form."""
         return self.place.number > 0 and (self.state.is_sealed or self.state.form == FIRST_FORM)
 
     def begin_segment(self) -> None:
-        """Puts a new segment behind the last one."""
+        """Begins a new segment after the last one."""
         behind = Behind(self.length, self.digest.hexdigest())
         line, place = head_line(self.place, self.state, self.segment + 1, behind)
         path = write_segment(self.path, self.segment + 1, line)

@@ -1,4 +1,4 @@
-"""The commands of a record, told to an auction in memory, and what that shows compared with what others saw."""
+"""Replays a record: runs its commands on an auction in memory, and compares the results with those that others saw."""
 from collections.abc import Iterable, Iterator
 from dataclasses import dataclass, field
 from os import PathLike
@@ -12,8 +12,8 @@ from hpb.rules.told import NotTold, Told, read_standing, read_told
 
 @dataclass
 class Replay:
-    """What an auction in memory shows that was told all commands. `standings` has how it stood before the first close and after each one;
-    `end` the answers to `questions` behind all commands; `faults` what differs from the record."""
+    """The states of an auction in memory that was given all commands of a record. `standings` has the state before the first close and
+    after each close. `end` has the answers to `questions` after all commands. `faults` says what differs from the record."""
 
     story: Story
     standings: list[Told] = field(default_factory=list)
@@ -23,20 +23,21 @@ class Replay:
 
     @property
     def questions(self) -> list[str]:
-        """Those about all that an auction shows."""
+        """Questions whose answers have the auction's whole state."""
         tree = self.story.tree
         return ["SHOW", *(f"NODE {name}" for name in tree.nodes), *(f"WHO {bidder}" for bidder in tree.bidders)]
 
     def look_at_shown(self, shown: Iterable[tuple[int, str]], where: str) -> None:
-        """Answers to SHOW, each with its number there, have to be what the auction in memory shows after as many commands. `NotTold` is
-        raised where one is no whole answer."""
+        """Compares answers to SHOW with those of the auction in memory after as many commands. Each is given with its number in its source,
+        which `where` names. Raises `NotTold` if one isn't a whole answer."""
         for number, answer in shown:
             count = _read_shown(answer).count
             if self._shows.get(count) != answer:
                 self.faults.append(f"{where} {number}: {answer!r} was shown, and after {count} commands it is {self._shows.get(count)!r}")
 
     def compare(self, path: str | PathLike[str], program: str | PathLike[str]) -> None:
-        """With what a file keeps, of which the program is asked by a copy. Raises what `read_image`, `read_head` and `Copy` raise."""
+        """Compares the last state with a file's, by questions to the program on a copy of the file. Raises what `read_image`, `read_head`
+        and `Copy` raise."""
         image = read_image(path)
         if read_head(image).definition != self.story.tree.definition:
             self.faults.append("the file has another definition")
@@ -75,8 +76,8 @@ class Replay:
 
 
 def replay(story: Story, program: str | PathLike[str]) -> Replay:
-    """Tells a program the commands of a record. `NotAnswered` is raised where it doesn't answer each line, and `NotTold` where an answer
-    isn't whole."""
+    """Runs the commands of a record on the program. Raises `NotAnswered` if it doesn't answer each line, and `NotTold` if an answer isn't
+    whole."""
     made = Replay(story)
     made._tell(program)
     return made

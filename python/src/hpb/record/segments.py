@@ -1,7 +1,7 @@
 """The segments of a record: `auction.record`, and behind it `auction.record.2`, `auction.record.3`, .. (docs/FRONT.md).
 
-A segment that is full ends by an entry `sealed` with the SHA-256 of all that stands before that entry. The next one begins with the
-length and the SHA-256 of the whole file before it, and with the state that its entries lead to: so a start reads the last one alone.
+A full segment ends with an entry `sealed`, which has the SHA-256 of everything before that entry. The next segment begins with the length
+and the SHA-256 of the whole file before it, and with the state after that file's entries. So a start reads only the last segment.
 """
 import hashlib
 import itertools
@@ -18,15 +18,15 @@ from hpb.record.entries import (
 )
 from hpb.record.state import State
 
-# A segment of so many bytes is sealed.
+# A segment with so many bytes is sealed.
 MOST_SEGMENT = 4 * MEGABYTE
-# How the first entry of a segment behind another begins.
+# The kind of the first entry in each segment but the first.
 HEAD = re.compile(rb'[0-9a-f]{64} \{"entry":(?!1,)[0-9]+,"before":"')
 
 
 @dataclass(frozen=True)
 class Behind:
-    """The file that a segment stands behind: its bytes, and their SHA-256."""
+    """The length and the SHA-256 of the segment before this one."""
 
     bytes: int
     sha256: str
@@ -41,9 +41,12 @@ def segment_path(path: str, number: int) -> str:
 
 
 def segment_paths(path: str) -> list[str]:
-    """The segments that there are, in order. Another file with the name of one, as a copy with a date behind its name, is passed over, also
-    one that may not be read. A WrongSegment says that a segment is missing, an InTheWay that another file stands in its place, or in that of
-    the next one. A PermissionError says that the file there may not be read."""
+    """The existing segments, in order. Another file may have such a name, for example a copy with a date at its end: it is skipped, even if
+    it can't be read.
+
+    A WrongSegment says that a segment is missing. An InTheWay says that another file has its name, or the name of the next one. A
+    PermissionError says that the file with that name can't be read.
+    """
     folder, name = os.path.split(os.path.abspath(path))
     try:
         there = {number for found in os.listdir(folder) if (number := number_of(found, name))}
@@ -61,8 +64,8 @@ def segment_paths(path: str) -> list[str]:
 
 
 def begins_segment(path: str, number: int) -> bool:
-    """Whether a file begins as the segment with this number does: a copy or another file has another beginning."""
-    # A pipe would be waited for.
+    """Whether a file begins like the segment with this number. Copies and other files begin differently."""
+    # Opening a pipe would wait for a writer.
     if not stat.S_ISREG(os.lstat(path).st_mode):
         return False
     try:
@@ -73,14 +76,14 @@ def begins_segment(path: str, number: int) -> bool:
 
 
 def look_whether_readable(path: str) -> None:
-    """A PermissionError says that a file may not be read: it may be a segment."""
+    """Opens a file to see whether it can be read. A PermissionError says that it can't: it may be a segment."""
     if stat.S_ISREG(os.lstat(path).st_mode):
         with open(path, "rb"):
             pass
 
 
 def number_of(found: str, name: str) -> int:
-    """Which segment of the record of this name a file is, or 0."""
+    """The number of the segment that a file is, in the record of this name; or 0."""
     if found == name:
         return 1
     tail = found.removeprefix(f"{name}.")
@@ -93,7 +96,7 @@ def first_line(path: str) -> bytes:
 
 
 def last_hash(path: str) -> str:
-    """The hash that the last line of a segment begins with, or an empty text where there is no whole line."""
+    """The hash of a segment's last entry, or an empty text if the last line isn't whole."""
     with open(path, "rb") as file:
         length = file.seek(0, os.SEEK_END)
         file.seek(max(0, length - MOST_ENTRY))
@@ -103,7 +106,7 @@ def last_hash(path: str) -> str:
 
 
 def head_of(path: str) -> tuple[Entry, Place]:
-    """The first entry of a segment behind another, and the place before it. A WrongSegment says that there is none."""
+    """The first entry of a segment after the first, and the place before it. A WrongSegment says that there is no such entry."""
     line, name = first_line(path), os.path.basename(path)
     if not line.endswith(b"\n") or not is_sealed(line):
         raise WrongSegment(f"{name}: its first entry isn't as it was written")
@@ -119,8 +122,8 @@ def head_of(path: str) -> tuple[Entry, Place]:
 
 
 def look_at_seals(paths: list[str]) -> None:
-    """Whether each segment but the last is the one that the next names: by its length and the hash of its last entry, without reading it
-    whole. A WrongSegment names one that isn't."""
+    """Checks that each segment but the last is the one that the next names, by its length and the hash of its last entry. No segment is
+    read whole. A WrongSegment names one that isn't."""
     for path, next_path in zip(paths, paths[1:]):
         head, before = head_of(next_path)
         if os.stat(path).st_size != head["behind"]["bytes"] or last_hash(path) != before.hash:
@@ -128,14 +131,14 @@ def look_at_seals(paths: list[str]) -> None:
 
 
 class Reader:
-    """Reads all segments whole, and checks each seal against what is there."""
+    """Reads all segments whole, and checks each seal against the file."""
 
     def __init__(self, path: str) -> None:
         self.paths = segment_paths(path) or [path]
         self.place, self.state = Place(), State()
 
     def entries(self) -> Iterator[tuple[Entry, Place]]:
-        """Each entry, with the place behind it. A Damaged says what isn't as a front wrote it."""
+        """Reads each entry, with the place behind it. A Damaged says which one isn't as a front wrote it."""
         for number, path in enumerate(self.paths, 1):
             first = self.place.number + 1
             with open(path, "rb") as file:
@@ -148,7 +151,7 @@ class Reader:
                     yield entry, self.place
 
     def look_at_head(self, entry: Entry, number: int) -> None:
-        """The first entry of a segment has to name the file before it, and what that leads to."""
+        """Checks a segment's first entry: it has to name the file before it, and the state after that file."""
         before = self.paths[number - 2]
         if entry["kind"] != "begin" or entry.get("form") != FORM or entry.get("segment") != number:
             raise Damaged(f"entry {entry['entry']}: it doesn't begin segment {number}")
@@ -172,7 +175,7 @@ def look_at_seal(entry: Entry, path: str) -> None:
 
 
 def digest_of(path: str, length: int) -> "hashlib._Hash":
-    """The SHA-256 of the first bytes of a file, which may go on."""
+    """The SHA-256 of a file's first bytes, up to this length."""
     digest, left = hashlib.sha256(), length
     with open(path, "rb") as file:
         while left > 0 and (piece := file.read(min(left, MEGABYTE))):
@@ -187,14 +190,14 @@ def file_behind(path: str) -> Behind:
 
 
 def head_line(place: Place, state: State, segment: int, behind: Behind) -> tuple[bytes, Place]:
-    """The first entry of the segment with this number, behind a state that is on the disk; and the place behind it."""
+    """The line of the first entry of the segment with this number, after a state that is on the disk; and the place behind that entry."""
     fields = {"form": FORM, "segment": segment, "behind": behind.fields(), "definition": state.definition, "state": state.head()}
     return entry_line(place, "begin", fields, synced=place.number)
 
 
 def write_segment(record: str, number: int, line: bytes) -> str:
-    """The name of a new segment, which has it once its first entry is on the disk: so a segment has a whole one. An InTheWay says that
-    another file has that name."""
+    """Makes a new segment, and returns its name. The segment gets that name once its first entry is on the disk, so the first entry is
+    always whole. An InTheWay says that another file has the name."""
     path, new = segment_path(record, number), free_name(record, number)
     write_new(new, [line])
     try:
@@ -207,7 +210,7 @@ def write_segment(record: str, number: int, line: bytes) -> str:
 
 
 def free_name(record: str, number: int) -> str:
-    """A name for the segment with this number before it has its own. What a front left there that was killed goes; nothing else does."""
+    """The name of a new segment before it gets its own. If a killed front left a file of that name, it is removed; any other file stays."""
     for place in itertools.count(1):
         new = f"{record}.new" if place == 1 else f"{record}.new-{place}"
         if os.path.lexists(new) and is_rest(new, segment_path(record, number - 1)):
@@ -218,8 +221,8 @@ def free_name(record: str, number: int) -> str:
 
 
 def is_rest(new: str, last: str) -> bool:
-    """Whether a front left this that was killed while it made a segment: the second name of the last one, or a first entry as far as it
-    was written."""
+    """Whether a front left this file when it was killed while it made a segment. It is a second name of the last segment, or a part of a
+    first entry."""
     try:
         with open(open_own(new, os.O_RDONLY, may_make=False), "rb") as begun:
             return os.path.samefile(new, last) or may_be_head(begun.read(MOST_ENTRY + 1))
@@ -228,14 +231,14 @@ def is_rest(new: str, last: str) -> bool:
 
 
 def may_be_head(data: bytes) -> bool:
-    """Whether this may be the first entry of a segment behind another, as far as it was written, and nothing behind it."""
+    """Whether this may be the first entry of a segment after the first, or a beginning of one, and nothing after it."""
     line, _, more = data.rstrip(b"\0").partition(b"\n")
     is_front = re.fullmatch(rb"[0-9a-f]*", line[:HASH_BYTES]) is not None and (len(line) <= HASH_BYTES or HEAD.match(line) is not None)
     return not more and is_front
 
 
 def sync_folder(path: str) -> None:
-    """Returns when the names of the folder that a file is in are on the disk."""
+    """Waits until the names in the folder of this file are on the disk."""
     folder = os.open(os.path.dirname(os.path.abspath(path)), os.O_RDONLY | os.O_DIRECTORY | os.O_CLOEXEC)
     try:
         os.fsync(folder)
@@ -244,7 +247,7 @@ def sync_folder(path: str) -> None:
 
 
 def write_new(path: str, pieces: Iterable[bytes]) -> None:
-    """A file that wasn't there, with these pieces; it is on the disk when this returns. Where that fails there is none."""
+    """Makes a file that wasn't there, of these pieces. It is on the disk when this returns. If that fails, there is no file."""
     file = os.open(path, os.O_WRONLY | os.O_CREAT | os.O_EXCL | os.O_CLOEXEC, MODE)
     try:
         with open(file, "wb") as out:
@@ -257,7 +260,7 @@ def write_new(path: str, pieces: Iterable[bytes]) -> None:
 
 
 def write_aside(path: str, pieces: Iterable[bytes]) -> str:
-    """The name of a new file beside a record, with these pieces."""
+    """Writes these pieces into a new file beside a record, and returns its name."""
     number = 1
     while os.path.lexists(aside := f"{path}.torn-{number}"):
         number += 1

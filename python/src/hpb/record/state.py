@@ -1,21 +1,21 @@
-"""What the entries of a record come to: all that a front has to know of them when it starts (docs/FRONT.md)."""
+"""The state of an auction by the entries of its record: everything that a front needs from it at its start (docs/FRONT.md)."""
 from dataclasses import dataclass, field
 from typing import Any
 
 from hpb.front.rights import sender_and_ticket
 from hpb.record.entries import FIRST_FORM, FORM, Damaged, Entry
 
-# Stands for the auctioneer among the senders of a head.
+# The key for the auctioneer among the senders in a segment's first entry.
 AUCTIONEER = ""
 
 
 @dataclass
 class State:
-    """What a record says of its auction.
+    """The state of an auction by its record.
 
     `count` is how many commands were accepted, `used` the last ticket of each sender, and `foreign` how many commands didn't come through
-    the front. `open` has the lines that were told to the server and have no answer, each under the number of its entry: records of the
-    first form keep them, those of the second keep them beside the record.
+    the front. `open` has the lines without an answer that were sent to the server, each under the number of its entry. Only records of the
+    first form have such entries; the second form keeps these lines in the file beside the record.
     """
 
     definition: Any = None
@@ -29,7 +29,7 @@ class State:
     is_sealed: bool = False
 
     def take(self, entry: Entry) -> None:
-        """Goes on by an entry. A LookupError, TypeError, ValueError or AttributeError says that no front writes it."""
+        """Takes the next entry. A LookupError, TypeError, ValueError or AttributeError says that no front writes such an entry."""
         kind = entry["kind"]
         if kind == "begin":
             self.begin(entry)
@@ -53,7 +53,7 @@ class State:
         self.used[sender] = max(self.used.get(sender, 0), ticket)
 
     def begin(self, entry: Entry) -> None:
-        """The first entry of a segment, which has all that came before it."""
+        """Takes the first entry of a segment, which has the whole state before it."""
         if entry["form"] not in (FIRST_FORM, FORM):
             raise Damaged(f"it is of form {entry['form']!r}, and this program knows {FIRST_FORM} and {FORM}")
         self.form, self.definition, self.is_sealed = entry["form"], entry["definition"], False
@@ -64,7 +64,7 @@ class State:
             self.open = {number: (name, line.encode("latin-1")) for number, name, line in head["open"]}
 
     def head(self) -> Entry:
-        """What the first entry of a segment says of all that came before it."""
+        """The state as the first entry of the next segment has it."""
         return {
             "names": self.names,
             "count": self.count,

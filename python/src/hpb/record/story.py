@@ -1,4 +1,4 @@
-"""What a record tells: the commands that were accepted, whoever sent them, and whether its entries fit one another."""
+"""The contents of a record: the accepted commands, their senders, and whether its entries fit together."""
 from collections.abc import Iterable
 from dataclasses import dataclass, field
 
@@ -10,7 +10,7 @@ from hpb.rules.writing import read_fields
 
 @dataclass(frozen=True, slots=True)
 class Command:
-    """One that was accepted: its number from 1, when, whoever sent it, and its line."""
+    """An accepted command: its number from 1, its time, its sender's name, and its line."""
 
     number: int
     at: str
@@ -19,14 +19,14 @@ class Command:
 
     @property
     def words(self) -> list[str]:
-        """Those of its line."""
+        """The words of its line."""
         return self.line.split(" ")
 
 
 @dataclass
 class Story:
-    """What a record has, as far as its entries fit one another; `faults` says how they don't. `place` is its last entry, and `shown` has
-    each answer to SHOW that stands in it, with the number of its entry."""
+    """The contents of a record. `faults` says which entries don't fit together. `place` is behind its last entry. `shown` has each answer
+    to SHOW in the record, with the number of its entry."""
 
     tree: Tree
     commands: list[Command] = field(default_factory=list)
@@ -39,8 +39,8 @@ class Story:
     _asked: dict[int, tuple[str, str]] = field(default_factory=dict)
 
     def take(self, entry: Entry, place: Place) -> None:
-        """Goes on by an entry. `Damaged` is raised where commands stand nowhere; an entry that no front writes may raise what comes of
-        that."""
+        """Takes the next entry. Raises `Damaged` if the entry says that commands are missing from the record. For an entry that no front
+        writes, it may raise any exception that follows from it."""
         self.place = place
         match entry["kind"]:
             case "begin":
@@ -69,8 +69,8 @@ class Story:
         self.commands.append(command)
 
     def _was_asked(self, entry: Entry, command: Command) -> bool:
-        """In the first form each command has an entry by which it was asked. In the second that stands beside the record, but for those
-        that a record of the first form left."""
+        """Whether an entry says that the command was sent. In the second form no entry has to, except for commands that a record of the
+        first form left."""
         if self._form != FIRST_FORM and "asked" not in entry:
             return True
         return self._asked.pop(entry["asked"], None) == (command.name, command.line)
@@ -87,8 +87,8 @@ class Story:
 
 
 def read_story(entries: Iterable[tuple[Entry, Place]]) -> Story:
-    """The story of all entries of a record. Raises what `Story.take` does, `Damaged` where it doesn't begin as a record, and a refusal
-    where its definition is none."""
+    """The story of all entries of a record. Raises what `Story.take` does, `Damaged` if the first entry doesn't begin a record, and a
+    refusal if the definition in it isn't valid."""
     story: Story | None = None
     for entry, place in entries:
         story = story or _begun(entry)

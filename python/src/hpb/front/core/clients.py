@@ -1,4 +1,4 @@
-"""Connections that come and go, what each may send, and when one ends."""
+"""Connections of clients: how they begin, which lines they may send, and when they end."""
 import collections
 
 from hpb.front.core.effects import Abort, Answer, End, Field, Take, Wait
@@ -13,7 +13,7 @@ MOST_FIRST_LINE = 160
 
 
 def take(step: Step, event: OfClient) -> None:
-    """What comes of a connection; of one that is gone nothing is taken."""
+    """Handles an event of a connection. Events of a connection that has ended are ignored."""
     if isinstance(event, Came):
         come(step, event)
         return
@@ -40,14 +40,14 @@ def take(step: Step, event: OfClient) -> None:
 
 
 def come(step: Step, event: Came) -> None:
-    """One more, of whom nothing is known yet."""
+    """A new connection, which is unknown until its first line."""
     make_room(step)
     step.own_connections()[event.connection] = Connection(event.peer, event.network, step.front.time)
     step.set(unknown=(*step.front.unknown, event.connection))
 
 
 def make_room(step: Step) -> None:
-    """The oldest unknown connection of the address that has the most of them ends, as long as there are too many."""
+    """If there are too many unknown connections, the oldest one of the busiest address ends, until there is room for one more."""
     while len(unknown := step.front.unknown) >= step.front.limits.unknown_connections:
         connections = step.front.connections
         crowds = collections.Counter(connections[one].network for one in unknown)
@@ -59,7 +59,7 @@ def make_room(step: Step) -> None:
 
 
 def open_up(step: Step, number: int) -> None:
-    """It can be written to; one that was to go meanwhile does."""
+    """The connection can be written to. If it was to end before that, it ends now."""
     connection = step.set_connection(number, is_open=True)
     if connection.going == Going.STAYS:
         let_send(step, number)
@@ -68,7 +68,7 @@ def open_up(step: Step, number: int) -> None:
 
 
 def go(step: Step, number: int, why: str) -> None:
-    """One is gone. What it had sent is dropped, but for the line that the server has."""
+    """The connection has ended. Its waiting lines are dropped, but for a line that the server has already."""
     forget(step, number)
     connection = step.front.connections[number]
     step.note("ended", **told_of(connection), lines=connection.taken, why=connection.why or why)
@@ -76,7 +76,7 @@ def go(step: Step, number: int, why: str) -> None:
 
 
 def forget(step: Step, number: int) -> None:
-    """One doesn't count any more among those that its name has, or that are unknown."""
+    """From now on the connection counts neither as one of its name's nor as an unknown one."""
     token = step.front.connections[number].token
     if token:
         step.set_name(token.name, connections=without(step.front.names[token.name].connections, number))
@@ -88,7 +88,7 @@ def without(numbers: tuple[int, ...], number: int) -> tuple[int, ...]:
 
 
 def dismiss(step: Step, number: int, word: str = "") -> None:
-    """One has to go; a line says why, if there is a word for it. Nothing is written to it afterwards."""
+    """Ends the connection. If there is a word for the reason, a last line says it; nothing is written after that."""
     connection = step.front.connections[number]
     if connection.going == Going.CLOSED:
         return
@@ -102,7 +102,7 @@ def dismiss(step: Step, number: int, word: str = "") -> None:
 
 
 def told_of(connection: Connection) -> dict[str, Field]:
-    """What a line of the log says of a connection: whose it is, and by which token."""
+    """A connection's fields in a line of the log: its address, its name and the id of its token."""
     token = connection.token
     return {"peer": connection.peer, "name": token.name if token else None, "token": token.id if token else None}
 
@@ -111,7 +111,7 @@ def told_of(connection: Connection) -> dict[str, Field]:
 
 
 def know(step: Step, number: int, line: bytes) -> None:
-    """By the first line of a connection."""
+    """Takes the first line of a connection: if it has a known token, the connection is welcomed, else it ends."""
     connection = step.front.connections[number]
     token = step.front.tokens.find(line[len(TOKEN):]) if line.startswith(TOKEN) else None
     if token is None:
@@ -130,7 +130,8 @@ def know(step: Step, number: int, line: bytes) -> None:
 
 
 def has_room(step: Step, name: Name) -> bool:
-    """Whether one more may come. If there are as many as may be, the longest silent one that waits for nothing ends."""
+    """Whether the name may have one more connection. At its limit, its longest silent connection that waits for no answer ends, if there is
+    one."""
     if len(name.connections) < step.front.limits.connections:
         return True
     connections = step.front.connections
@@ -144,7 +145,7 @@ def has_room(step: Step, name: Name) -> bool:
 
 
 def reload(step: Step, event: Reloaded) -> None:
-    """Other limits and tokens. Anyone whose token went has to go; the lines of such a connection aren't told any more."""
+    """Takes new limits and tokens. Connections whose token was removed end, and their waiting lines don't go to the server any more."""
     step.set(limits=event.limits, tokens=event.tokens)
     known = set(event.tokens.known)
     for number, connection in step.front.connections.items():
@@ -170,7 +171,8 @@ def let_send(step: Step, number: int) -> None:
 
 
 def may_take(step: Step, number: int) -> bool:
-    """Whether something that came is looked at. What comes behind it has to wait."""
+    """Whether an event's line is used: only if the connection was allowed to send one. The connection then has to wait until it may send
+    the next."""
     connection = step.front.connections[number]
     is_right = connection.may_send and connection.going == Going.STAYS
     step.set_connection(number, may_send=False, seen=step.front.time if is_right else connection.seen)
@@ -178,7 +180,7 @@ def may_take(step: Step, number: int) -> bool:
 
 
 def take_line(step: Step, number: int, line: bytes) -> None:
-    """A whole line: of a connection that is unknown the token, else one for the server."""
+    """Takes a whole line. From an unknown connection it is the token, from any other one a line for the server."""
     if not may_take(step, number):
         return
     token = step.front.connections[number].token
@@ -190,7 +192,7 @@ def take_line(step: Step, number: int, line: bytes) -> None:
 
 
 def take_long(step: Step, number: int, beginning: bytes) -> None:
-    """What stands behind the beginning of a line that is too long is never looked at: the connection ends."""
+    """Refuses a line that is too long. The connection ends, because the rest of such a line is never read."""
     if not may_take(step, number):
         return
     if token := step.front.connections[number].token:
@@ -200,7 +202,7 @@ def take_long(step: Step, number: int, beginning: bytes) -> None:
 
 
 def take_end(step: Step, number: int, rest: bytes) -> None:
-    """Half a line at the end is refused; then the connection goes, once all is answered."""
+    """The client sends no more lines. If it left half a line, that is refused. Once all lines are answered, the connection ends."""
     if not may_take(step, number):
         return
     token = step.set_connection(number, has_ended=True, going=Going.LEAVES).token
@@ -210,7 +212,7 @@ def take_end(step: Step, number: int, rest: bytes) -> None:
 
 
 def take_in_turn(step: Step, item: Item) -> None:
-    """Takes a line now, or once its name may send one more."""
+    """Takes a line at once if its name's rate allows it. Else the line waits until the rate does."""
     number = item.connection
     if seconds := wait_seconds(step, item.token.name):
         step.set_connection(number, held=item)
@@ -224,7 +226,7 @@ def take_in_turn(step: Step, item: Item) -> None:
 
 
 def wait_over(step: Step, number: int) -> None:
-    """A line that had to wait is looked at again."""
+    """The wait of a line is over: it is taken, unless its name has to wait again."""
     connection = step.front.connections[number]
     if connection.held and connection.going == Going.STAYS:
         take_in_turn(step, connection.held)
@@ -232,7 +234,7 @@ def wait_over(step: Step, number: int) -> None:
 
 
 def wait_seconds(step: Step, name: str) -> float:
-    """Takes leave for one line, or says how long that has to wait."""
+    """Counts one line against the name's rate, and returns 0. If the rate doesn't allow it yet, returns the seconds to wait."""
     known, now, rate = step.front.names[name], step.front.time, step.front.limits.lines_per_second
     credit = min(known.credit + (now - known.seen) * rate, BURST_SECONDS * rate)
     has_leave = credit >= 1
@@ -241,7 +243,7 @@ def wait_seconds(step: Step, name: str) -> float:
 
 
 def queue(step: Step, item: Item) -> None:
-    """A line that is to be answered waits for its turn."""
+    """Puts a line at the end of its name's lines, to be answered in turn."""
     connection = step.front.connections[item.connection]
     step.set_connection(item.connection, waiting=connection.waiting + 1, taken=connection.taken + 1)
     name, known = item.token.name, step.front.names[item.token.name]
@@ -251,7 +253,7 @@ def queue(step: Step, item: Item) -> None:
 
 
 def answer(step: Step, number: int, line: bytes) -> None:
-    """The answer to a connection's line, if it is still there and doesn't have to go."""
+    """Sends the answer to a line, unless the connection has ended or is ending."""
     if (connection := step.front.connections.get(number)) is None:
         return
     step.set_connection(number, waiting=connection.waiting - 1, seen=step.front.time)
@@ -262,13 +264,13 @@ def answer(step: Step, number: int, line: bytes) -> None:
 
 
 def drop(step: Step, number: int) -> None:
-    """A line of a connection is never told."""
+    """Drops a line of the connection: it never goes to the server, and gets no answer."""
     if connection := step.front.connections.get(number):
         step.set_connection(number, waiting=connection.waiting - 1)
 
 
 def go_when_answered(step: Step, number: int) -> None:
-    """One that is to go does, once it waits for nothing."""
+    """Ends a connection that is to leave, if all its lines are answered."""
     connection = step.front.connections[number]
     if connection.going == Going.LEAVES and not connection.waiting:
         dismiss(step, number)
@@ -278,7 +280,7 @@ def go_when_answered(step: Step, number: int) -> None:
 
 
 def sweep(step: Step) -> None:
-    """Ends connections that don't say who they are, such as are silent for too long, and such as don't read their answers."""
+    """Ends connections that send no token in time, that are silent for too long, or that don't read their answers."""
     limits = step.front.limits
     for number, connection in step.front.connections.items():
         silent = step.front.time - connection.seen
@@ -292,7 +294,7 @@ def sweep(step: Step) -> None:
 
 
 def close(step: Step) -> None:
-    """Nothing more is taken. Each connection ends once what it waits for is answered."""
+    """No more lines are taken. Each connection ends once all its lines are answered."""
     for number, connection in step.front.connections.items():
         if connection.waiting and connection.going == Going.STAYS:
             step.set_connection(number, going=Going.LEAVES, held=None)

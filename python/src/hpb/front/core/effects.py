@@ -1,4 +1,4 @@
-"""What a front has done by the shells round it, in this order."""
+"""The effects of an event: the shells round the front's core carry them out, in this order."""
 from collections.abc import Mapping
 from dataclasses import dataclass
 from typing import TypeAlias
@@ -12,17 +12,17 @@ Field: TypeAlias = str | int | None
 
 @dataclass(frozen=True, slots=True)
 class Admit:
-    """Connections are taken from now on."""
+    """Takes connections from now on."""
 
 
 @dataclass(frozen=True, slots=True)
 class Shut:
-    """No more of them are."""
+    """Takes no more connections."""
 
 
 @dataclass(frozen=True, slots=True)
 class Take:
-    """The connection may send one more line, of so many bytes at most, or end its lines. Until then no more is read."""
+    """Lets the connection send one more line, of at most so many bytes, or end its lines. No more is read before this."""
 
     connection: int
     most_bytes: int
@@ -30,7 +30,7 @@ class Take:
 
 @dataclass(frozen=True, slots=True)
 class Wait:
-    """`Waited` is to come after so many seconds."""
+    """Asks for `Waited` after so many seconds."""
 
     connection: int
     seconds: float
@@ -38,7 +38,7 @@ class Wait:
 
 @dataclass(frozen=True, slots=True)
 class Answer:
-    """A line to a client."""
+    """Sends a line to a client."""
 
     connection: int
     line: bytes
@@ -46,14 +46,14 @@ class Answer:
 
 @dataclass(frozen=True, slots=True)
 class End:
-    """The connection ends once all that was written is sent, or after some seconds."""
+    """Ends the connection once everything written to it is sent, or after some seconds."""
 
     connection: int
 
 
 @dataclass(frozen=True, slots=True)
 class Abort:
-    """The connection ends at once."""
+    """Ends the connection at once."""
 
     connection: int
 
@@ -63,24 +63,25 @@ class Abort:
 
 @dataclass(frozen=True, slots=True)
 class StartServer:
-    """`SessionOpened` for each session and `ServerUp` answer it, or `ServerFailed`; afterwards comes `ServerGone`."""
+    """Starts a server. If it comes up, `SessionOpened` follows for each session, then `ServerUp`, and `ServerGone` once it is lost. If not,
+    `ServerFailed` follows."""
 
 
 @dataclass(frozen=True, slots=True)
 class DropServer:
-    """The server isn't waited for any more: `ServerGone` is to come."""
+    """Gives the server up. `ServerGone` follows."""
 
 
 @dataclass(frozen=True, slots=True)
 class EndServer:
-    """`ServerEnded` is to come within so many seconds."""
+    """Ends the server: `ServerEnded` follows within so many seconds."""
 
     seconds: float
 
 
 @dataclass(frozen=True, slots=True)
 class Tell:
-    """A line to the server. If the server goes before its answer, `ServerGone` comes instead."""
+    """Sends a line to the server. `Answered` follows, or `ServerGone` if the server ends before its answer."""
 
     session: int
     line: bytes
@@ -91,7 +92,7 @@ class Tell:
 
 @dataclass(frozen=True, slots=True)
 class Write:
-    """An entry. `Synced` counts it."""
+    """Writes an entry into the record. A later `Synced` says that it is on the disk."""
 
     kind: str
     fields: Entry
@@ -99,7 +100,7 @@ class Write:
 
 @dataclass(frozen=True, slots=True)
 class PutBeside:
-    """A command into a place beside the record. `StandsBeside` names the place."""
+    """Writes a command into a place beside the record. A later `StandsBeside` says that it is on the disk."""
 
     place: int
     name: str
@@ -108,14 +109,14 @@ class PutBeside:
 
 @dataclass(frozen=True, slots=True)
 class FreeBeside:
-    """Nothing stands in a place any more. It needs no sync."""
+    """Empties a place beside the record. Nothing waits until this is on the disk."""
 
     place: int
 
 
 @dataclass(frozen=True, slots=True)
 class EmptyBeside:
-    """`BesideEmptied` answers it."""
+    """Empties all places beside the record. `BesideEmptied` follows."""
 
 
 # All else.
@@ -123,12 +124,12 @@ class EmptyBeside:
 
 @dataclass(frozen=True, slots=True)
 class StartBoard:
-    """`BoardUp` answers it, or `Failed`."""
+    """Starts the page. `BoardUp` or `Failed` follows."""
 
 
 @dataclass(frozen=True, slots=True)
 class AnswerBoard:
-    """The answer to what the page asked."""
+    """Answers a question of the page."""
 
     number: int
     line: bytes
@@ -136,28 +137,28 @@ class AnswerBoard:
 
 @dataclass(frozen=True, slots=True)
 class Wake:
-    """`Tick` is to come after so many seconds, at the latest."""
+    """Asks for a `Tick` after so many seconds at most."""
 
     seconds: float
 
 
 @dataclass(frozen=True, slots=True)
 class Publish:
-    """A line on standard output."""
+    """Writes a line on standard output."""
 
     text: str
 
 
 @dataclass(frozen=True, slots=True)
 class Say:
-    """A line on standard error."""
+    """Writes a line on standard error."""
 
     text: str
 
 
 @dataclass(frozen=True, slots=True)
 class Note:
-    """A line of the log."""
+    """Writes a line into the log."""
 
     kind: str
     fields: Mapping[str, Field]
@@ -165,12 +166,12 @@ class Note:
 
 @dataclass(frozen=True, slots=True)
 class MustEnd:
-    """The process is to end within its limit of time, whatever happens."""
+    """From now on the process ends within its limit of time, whatever happens."""
 
 
 @dataclass(frozen=True, slots=True)
 class Finish:
-    """The front has ended; `why` says why it couldn't go on, and is empty if all is in order."""
+    """Ends the front. `why` is the reason why it can't go on, and is empty if all is in order."""
 
     why: str
 

@@ -1,18 +1,18 @@
-"""How a front ends: lines that it has are answered, the record gets its last entry, and the server ends; each within its time."""
+"""How a front ends: it answers the lines that it has, writes the record's last entry, and ends the server, each within its time."""
 from hpb.front.core import clients
 from hpb.front.core.effects import EndServer, MustEnd, Publish, Shut, Wake
 from hpb.front.core.state import For, Phase, Stage
 from hpb.front.core.stepping import Step
 
-# Seconds from the signal until lines aren't answered any more, until the record has to be written, and until the server has to have ended.
-# The rest takes less than is left to the limit of hpb.front.watch.
+# Seconds from the signal to the last answers, to the record's last sync, and to the server's end. Everything after that takes less time
+# than remains until the limit of hpb.front.watch.
 LINES_SECONDS, RECORD_SECONDS, SERVER_SECONDS = 5.0, 6.0, 7.0
-# By so long nothing is waited for any more.
+# After so many seconds the front waits for nothing any more.
 LAST_SECONDS = 8.0
 
 
 def stop(step: Step) -> None:
-    """The front is to end."""
+    """Begins the end of the front. A front that hasn't let clients in yet ends at once."""
     if step.front.phase > Phase.OPEN:
         return
     step.do(MustEnd())
@@ -26,7 +26,7 @@ def stop(step: Step) -> None:
 
 
 def go_on(step: Step) -> None:
-    """Whether the next part of the end may begin; looked at after each event."""
+    """Begins the next part of the end, if it may begin. This is tried after each event."""
     passed = step.front.time - step.front.stopped_at
     if step.front.phase == Phase.ANSWERING and (passed >= LINES_SECONDS or not is_answering(step)):
         close(step)
@@ -40,17 +40,18 @@ def go_on(step: Step) -> None:
 
 
 def is_answering(step: Step) -> bool:
-    """Whether a line waits for its answer, or a close for what it came to."""
+    """Whether a line waits for its answer, or a close for its result."""
     return step.front.waiting > 0 or busy(step) > 0
 
 
 def busy(step: Step) -> int:
-    """How many sessions have a line of a name, which the server may have: its connection may be gone."""
+    """How many sessions work on something other than a question of the page. Their lines count even if the client's connection has
+    ended."""
     return sum(one.stage is not Stage.FREE and one.purpose is not For.BOARD for one in step.front.sessions)
 
 
 def close(step: Step) -> None:
-    """The last entry of the record. From here on the server gets no line of a name."""
+    """Writes the record's last entry. From here on no client's line goes to the server."""
     left = max(step.front.waiting, busy(step))
     if left:
         step.say(f"{left} lines that were taken have no answer, as when a disk hangs: their clients send them again")
@@ -59,14 +60,14 @@ def close(step: Step) -> None:
 
 
 def look_at_end(step: Step, words: str, status: int | None) -> None:
-    """Whether the server has ended as it should, and with as many commands as the record has."""
+    """Checks that the server ended in order, with as many commands as the record has; then the front ends."""
     if step.front.phase != Phase.ENDING:
         return
     count = step.front.ledger.count
     if step.front.setting.starts_server and not (status == 0 and words == f"CLOSED {count}"):
         how = "" if status is None else f" and {told_of(status)}"
         said = f"the server ended by {words!r}{how}, and the record has {count} commands"
-        # A line without an answer may be in the file.
+        # A line without an answer may be in the file, so the count may differ.
         if status or (status == 0 and not step.front.left):
             step.finish(f"{said}: see what it said before this, and docs/OPERATIONS.md")
             return
@@ -78,5 +79,5 @@ def look_at_end(step: Step, words: str, status: int | None) -> None:
 
 
 def told_of(status: int) -> str:
-    """A status as a person reads it."""
+    """An exit status in words."""
     return f"status {status}" if status >= 0 else f"signal {-status}"

@@ -12,7 +12,7 @@ from hpb.record.entries import Place
 
 @dataclass(frozen=True, slots=True)
 class Came:
-    """A connection was taken. `network` is what counts as one address."""
+    """A connection was taken. `network` stands for the client's address: connections with the same `network` count as one address."""
 
     connection: int
     peer: str
@@ -21,14 +21,14 @@ class Came:
 
 @dataclass(frozen=True, slots=True)
 class Opened:
-    """It can be written to: over TLS, when the handshake is done."""
+    """The connection can be written to. Over TLS, this is after the handshake."""
 
     connection: int
 
 
 @dataclass(frozen=True, slots=True)
 class Line:
-    """A line came that the connection may send."""
+    """The line came that the connection was allowed to send."""
 
     connection: int
     line: bytes
@@ -36,7 +36,7 @@ class Line:
 
 @dataclass(frozen=True, slots=True)
 class TooLong:
-    """A line came that has more bytes than it may: these are as many as it may have."""
+    """The line is longer than it may be. `beginning` has the most bytes that it may have."""
 
     connection: int
     beginning: bytes
@@ -44,7 +44,7 @@ class TooLong:
 
 @dataclass(frozen=True, slots=True)
 class LinesEnded:
-    """The client has ended its lines, with these bytes behind the last LF."""
+    """The client sends no more. `rest` are its bytes after the last LF."""
 
     connection: int
     rest: bytes
@@ -52,7 +52,7 @@ class LinesEnded:
 
 @dataclass(frozen=True, slots=True)
 class Stuffed:
-    """The client doesn't read its answers, or reads them again."""
+    """The client has stopped reading its answers, or reads them again."""
 
     connection: int
     is_full: bool
@@ -67,7 +67,7 @@ class Waited:
 
 @dataclass(frozen=True, slots=True)
 class Gone:
-    """The connection is no more."""
+    """The connection has ended."""
 
     connection: int
     why: str
@@ -80,19 +80,19 @@ OfClient: TypeAlias = Came | Opened | Line | TooLong | LinesEnded | Stuffed | Wa
 
 @dataclass(frozen=True, slots=True)
 class SessionOpened:
-    """A session with a server that has come answers, and SHOW was answered so."""
+    """A session with a new server has answered SHOW with `shown`."""
 
     shown: bytes
 
 
 @dataclass(frozen=True, slots=True)
 class ServerUp:
-    """All sessions are there."""
+    """All sessions with the new server are open."""
 
 
 @dataclass(frozen=True, slots=True)
 class ServerFailed:
-    """A server that was started doesn't come up. `is_final` says that another start can't help."""
+    """A new server didn't come up. `is_final` says that another start can't help."""
 
     why: str
     is_final: bool
@@ -100,7 +100,7 @@ class ServerFailed:
 
 @dataclass(frozen=True, slots=True)
 class ServerGone:
-    """A server that was up is gone; `how` it ended is empty if nobody knows."""
+    """A server that was up has ended. `how` says how it ended, and is empty if nobody knows."""
 
     how: str
 
@@ -115,7 +115,7 @@ class Answered:
 
 @dataclass(frozen=True, slots=True)
 class ServerEnded:
-    """A server that was to end has ended: what it wrote, and its status, if it ended by itself."""
+    """The server has ended after an `EndServer`. `words` is its output, and `status` its exit status, if it ended by itself."""
 
     words: str
     status: int | None
@@ -128,7 +128,8 @@ OfServer: TypeAlias = SessionOpened | ServerUp | ServerFailed | ServerGone | Ans
 
 @dataclass(frozen=True, slots=True)
 class Left:
-    """A command that the last front may have told to the server; `asked` is the entry that says so, in a record of the first form."""
+    """A command that the last front may have sent to the server. In a record of the first form, `asked` is the number of the entry that has
+    it."""
 
     name: str
     line: bytes
@@ -137,7 +138,7 @@ class Left:
 
 @dataclass(frozen=True, slots=True)
 class RecordOpened:
-    """The record is open, and comes to this. `left` are the lines of it that have no answer, and those that stand beside it."""
+    """The record is open, and this is its state. `left` are the commands without an answer, in the record and beside it."""
 
     count: int
     used: Mapping[str | None, int]
@@ -148,7 +149,7 @@ class RecordOpened:
 
 @dataclass(frozen=True, slots=True)
 class Synced:
-    """So many more entries are on the disk, of those that were written, in their order; `place` is the last."""
+    """So many more of the written entries are on the disk, in their order. `place` is behind the last one."""
 
     entries: int
     place: Place
@@ -156,7 +157,7 @@ class Synced:
 
 @dataclass(frozen=True, slots=True)
 class StandsBeside:
-    """Commands are on the disk in these places beside the record."""
+    """The commands in these places beside the record are on the disk."""
 
     places: tuple[int, ...]
 
@@ -173,14 +174,14 @@ OfRecord: TypeAlias = RecordOpened | Synced | StandsBeside | BesideEmptied
 
 @dataclass(frozen=True, slots=True)
 class BoardUp:
-    """The page can be opened; the line says so."""
+    """The page can be opened. `line` says at which address."""
 
     line: str
 
 
 @dataclass(frozen=True, slots=True)
 class BoardAsks:
-    """The page asks the server something."""
+    """The page asks the server a question."""
 
     number: int
     line: bytes

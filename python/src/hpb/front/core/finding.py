@@ -1,4 +1,5 @@
-"""The start: what the server accepted of the commands that the last front told it goes into the record, before anybody is let in."""
+"""The start of a front. The last front may have sent commands whose answers it never recorded. Those that the server accepted go into the
+record before anybody is let in."""
 from typing import Any
 
 from hpb.front.core import sessions
@@ -12,16 +13,16 @@ from hpb.front.rights import sender_and_ticket
 from hpb.record.entries import Entry, text_of
 from hpb.rules.told import NotTold, look_whose, read_told
 
-# The session that asks before anybody is let in.
+# The session for questions to the server before anybody is let in.
 FIRST = 0
 
 
 def begin(step: Step, event: RecordOpened) -> None:
-    """The record is open: the server is asked what it has."""
+    """The record is open: asks the server for the state of the auction."""
     tree = step.front.setting.tree
     questions = ["SHOW", *(f"NODE {name}" for name in tree.nodes), *(f"WHO {bidder}" for bidder in tree.bidders)]
     asked = tuple(question.encode() for question in questions)
-    # Of the commands beside the record those aren't looked for that it has.
+    # A command beside the record may be in the record already: such a one isn't looked for.
     left = tuple(one for one in event.left if one.asked or is_open(one, event))
     step.set(phase=Phase.ASKING, finding=Finding(asked, (), event.used, event.foreign, left=left))
     step.set_ledger(count=event.count, place=event.place)
@@ -39,7 +40,7 @@ def change(step: Step, **fields: Any) -> Finding:
 
 
 def take_answer(step: Step, answer: bytes) -> None:
-    """What the server has answered to the question of this phase."""
+    """Takes the server's answer to the question of this phase."""
     sessions.free(step, FIRST)
     match step.front.phase:
         case Phase.ASKING:
@@ -52,7 +53,7 @@ def take_answer(step: Step, answer: bytes) -> None:
 
 
 def hear(step: Step, answer: bytes) -> None:
-    """An answer by which it is known how many commands the server has of each sender."""
+    """Takes an answer about the auction's state. All of them together say how many commands the server has of each sender."""
     _, *questions = step.front.finding.questions
     finding = change(step, questions=tuple(questions), answers=(*step.front.finding.answers, text_of(answer)))
     if questions:
@@ -72,8 +73,9 @@ def hear(step: Step, answer: bytes) -> None:
 
 
 def look(step: Step) -> None:
-    """The next command that the last front left. If the server has its ticket it is asked for the answer: the command is its sender's last,
-    or another one under that ticket. If not it never had the command or refused it, and isn't told it now."""
+    """Looks for the next command that the last front left. If its ticket is the sender's last one in the file, the server is asked for the
+    answer: the file has this command, or another one under the same ticket. If not, the server never had the command or refused it, and it
+    isn't sent now."""
     while left := step.front.finding.left:
         sender, ticket = sender_and_ticket(left[0].line)
         if ticket and step.front.finding.used.get(sender) == ticket:
@@ -84,7 +86,7 @@ def look(step: Step) -> None:
 
 
 def hear_left(step: Step, answer: bytes) -> None:
-    """The answer to such a command."""
+    """Takes the server's answer to a command that the last front left."""
     finding, number = step.front.finding, sessions.number_of(answer)
     first, *left = finding.left
     change(step, left=tuple(left))
@@ -100,7 +102,7 @@ def fields_of(left: Left) -> Entry:
 
 
 def compare(step: Step) -> None:
-    """Whether the file has of each sender what the record has, and no more. Until that is clear nothing is written."""
+    """Ends the front if file and record don't have the same number of commands of each sender. Nothing is written before this is known."""
     finding, count = step.front.finding, step.front.ledger.count
     recorded = dict(finding.recorded)
     for left in finding.found.values():
@@ -118,7 +120,7 @@ def compare(step: Step) -> None:
 
 
 def note(step: Step) -> None:
-    """Puts the found commands into the record, in the order of their numbers."""
+    """Writes the found commands into the record, in the order of their numbers."""
     finding = step.front.finding
     for kind, fields in finding.others:
         step.write(kind, **fields)
@@ -132,7 +134,7 @@ def note(step: Step) -> None:
 
 
 def go_on(step: Step) -> None:
-    """Whether all that was written is on the disk; looked at after each event."""
+    """Goes on with the start once all written entries are on the disk. This is tried after each event."""
     if step.front.ledger.synced < step.front.ledger.written:
         return
     if step.front.phase == Phase.NOTING:
@@ -144,7 +146,7 @@ def go_on(step: Step) -> None:
 
 
 def take_emptied(step: Step) -> None:
-    """Nothing stands beside the record any more: the front begins."""
+    """The places beside the record are empty: writes the entry that begins this front's part of the record."""
     if found := len(step.front.finding.found):
         step.say(f"{found} commands that the last front told the server, and that the file has, were put into the record")
     step.set(phase=Phase.STARTED, finding=Finding())
@@ -152,7 +154,7 @@ def take_emptied(step: Step) -> None:
 
 
 def let_in(step: Step) -> None:
-    """Everything is found: the page comes up, if there is one, and clients are let in."""
+    """Starts the page, if there is one; else lets clients in."""
     if step.front.setting.has_board:
         step.set(phase=Phase.BOARD)
         step.do(StartBoard())
@@ -161,7 +163,7 @@ def let_in(step: Step) -> None:
 
 
 def admit(step: Step, board: str = "") -> None:
-    """Clients are let in."""
+    """Lets clients in. `board` is the page's line for standard output."""
     step.set(phase=Phase.OPEN)
     step.do(Admit(), Publish(f"LISTENING {step.front.setting.address}"))
     step.note("started", count=step.front.ledger.count)
@@ -170,7 +172,7 @@ def admit(step: Step, board: str = "") -> None:
 
 
 def advice(is_older_file: bool) -> str:
-    """What to do about a file and a record that don't go together."""
+    """Advice for the operator if file and record don't belong together."""
     if is_older_file:
         return ("an older copy of the file was taken back, or the record is that of another file. Name the right file and the right record, "
                 "or bring the file up to date by the record: docs/FRONT.md says how")

@@ -1,4 +1,4 @@
-"""Commands in the order of their numbers, each once: what may be written into the record, and when."""
+"""Commands in the order of their numbers, each once: which may be written into the record, and when."""
 from collections.abc import Mapping
 from dataclasses import dataclass, field
 
@@ -11,18 +11,19 @@ WHERE_THE_AUDIT_ENDS = "the audit ends there"
 
 @dataclass(frozen=True)
 class Held:
-    """A command that was accepted, and waits for those of smaller numbers."""
+    """An accepted command that waits until those with smaller numbers are written."""
 
-    # How many commands the server had got when its answer came.
+    # How many commands had been sent to the server when this one's answer came.
     sent: int
     name: str
     line: bytes
-    # The session that waits for its entry, if one does; the entry that asked, of a record of the first form.
+    # The session that waits for this entry, if one does. In a record of the first form, `asked` is the number of the entry with the
+    # question.
     session: int | None = None
     asked: int = 0
 
     def entry(self, number: int) -> Write:
-        """What the record gets."""
+        """The effect that writes this command's entry."""
         asked = {"asked": self.asked} if self.asked else {}
         return Write("accepted", {"name": self.name, "line": text_of(self.line), "answer": f"{OK}{number}", **asked})
 
@@ -37,9 +38,12 @@ class Foreign:
 
 @dataclass(frozen=True)
 class Ledger:
-    """`count` is how many commands the record has once all is written. Of its entries `written` were handed out and `synced` are on the disk,
-    counted from this front's start; `place` is the last that is. `told` has the places of commands that the server may have and that have no
-    answer."""
+    """The counts of a record and of the commands on their way to it.
+
+    `count` is how many commands the record has once all entries are written. `written` and `synced` count entries since this front's start:
+    those handed out, and those on the disk. `place` is behind the last entry on the disk. `told` has the places of commands that were sent
+    to the server and have no answer yet.
+    """
 
     count: int = 0
     written: int = 0
@@ -52,21 +56,21 @@ class Ledger:
     places: int = 0
 
     def explained(self) -> tuple[int, int]:
-        """How many commands the file has at least, and at most, by those that the server got."""
+        """The least and the greatest count of commands that the file can have, given those that were sent to the server."""
         return max([self.count, *self.held]), self.count + len(self.held) + len(self.told)
 
     def took_place(self) -> tuple["Ledger", int]:
-        """A place beside the record for one more command."""
+        """Takes a place beside the record for one more command."""
         if self.free:
             return changed(self, free=self.free[:-1]), self.free[-1]
         return changed(self, places=self.places + 1), self.places
 
     def tell(self, place: int) -> "Ledger":
-        """The server gets the command in this place."""
+        """The command in this place is sent to the server."""
         return changed(self, sent=self.sent + 1, told={**self.told, place: self.sent + 1})
 
     def judged(self, place: int) -> "Ledger":
-        """That command has its answer."""
+        """The command in this place has its answer."""
         return changed(self, told={other: sent for other, sent in self.told.items() if other != place})
 
     def hold(self, number: int, held: Held) -> "Ledger":
@@ -74,7 +78,8 @@ class Ledger:
         return changed(self, held={**self.held, number: held})
 
     def next(self) -> Held | Foreign | None:
-        """The next entry: a command that was accepted, unless a smaller number may still come."""
+        """The next entry to write: the accepted command with the next number, or numbers that nobody can get any more. None, if nothing is
+        held or a smaller number may still come."""
         if not self.held:
             return None
         if self.count + 1 in self.held:
@@ -85,6 +90,6 @@ class Ledger:
         return Foreign(self.count + 1, least - 1)
 
     def accept(self) -> "Ledger":
-        """The entry of the next number is written."""
+        """The command with the next number goes into the record."""
         held = {number: held for number, held in self.held.items() if number != self.count + 1}
         return changed(self, count=self.count + 1, held=held, written=self.written + 1)

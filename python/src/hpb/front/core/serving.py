@@ -1,4 +1,4 @@
-"""Keeps a server: starts it again when it is gone, looks at what its file has, and sends it again the lines that have no answer."""
+"""Keeps a server running: starts it again when it ends, checks its file against the record, and sends lines without an answer again."""
 import re
 
 from hpb.front.core import ending, finding, sessions
@@ -7,17 +7,17 @@ from hpb.front.core.events import Answered, OfServer, ServerEnded, ServerFailed,
 from hpb.front.core.state import FIRST_PAUSE, For, Phase, Stage
 from hpb.front.core.stepping import Step
 
-# How often a server is started that doesn't come up, or ends before it has answered anything.
+# So often the front starts a server that doesn't come up, or that ends before it has answered anything.
 MOST_STARTS = 8
 MOST_PAUSE = 2.0
-# One that has run for so many seconds has come up.
+# A server that has run for so many seconds has come up.
 STEADY = 10
 GIVEN_UP, FAILED = b"ERR 95 order", b"ERR 93 failed"
 COUNT = re.compile(rb"ROUND .* COUNT ([0-9]+)")
 
 
 def take(step: Step, event: OfServer) -> None:
-    """What comes of the server."""
+    """Handles an event of the server."""
     match event:
         case SessionOpened(shown):
             look_at_count(step, shown)
@@ -34,13 +34,13 @@ def take(step: Step, event: OfServer) -> None:
 
 
 def start(step: Step) -> None:
-    """One more start."""
+    """Starts a server."""
     step.set_server(starts=step.front.server.starts + 1, retry_at=None)
     step.do(StartServer())
 
 
 def begin(step: Step) -> None:
-    """A server that has come gets each line again that has no answer."""
+    """The server is up: it gets each line again that has no answer."""
     step.set_server(is_up=True, since=step.front.time, pause=FIRST_PAUSE)
     step.note("restart", what="server", outcome="started")
     for place, session in enumerate(step.front.sessions):
@@ -49,7 +49,7 @@ def begin(step: Step) -> None:
 
 
 def try_again(step: Step, why: str, is_final: bool) -> None:
-    """One that doesn't come up is started again after a pause, some times."""
+    """The server didn't come up: it is started again after a pause, unless it has failed too often or for good."""
     server = step.front.server
     if is_final:
         step.finish(why)
@@ -65,7 +65,7 @@ def try_again(step: Step, why: str, is_final: bool) -> None:
 
 
 def go_on_without(step: Step, how: str) -> None:
-    """One that was up is gone, and is started again at once."""
+    """The server has ended, and is started again at once."""
     server = step.front.server
     starts = 0 if step.front.time - server.since > STEADY else server.starts
     step.set_server(is_up=False, starts=starts)
@@ -76,14 +76,14 @@ def go_on_without(step: Step, how: str) -> None:
 
 
 def look_at_time(step: Step) -> None:
-    """Whether a server is to be started by now."""
+    """Starts the server again, if its pause is over."""
     retry_at = step.front.server.retry_at
     if retry_at is not None and step.front.time >= retry_at:
         start(step)
 
 
 def look_at_count(step: Step, shown: bytes) -> None:
-    """The file has what the record explains: no accepted command is lost, and nobody else told it any."""
+    """Ends the front if the file has lost accepted commands, or has more commands than the record explains."""
     found, (least, most) = COUNT.fullmatch(shown), step.front.ledger.explained()
     if not found or int(found[1]) < least:
         step.finish(f"the file has lost commands: {least} were accepted, and it shows {shown.decode('latin-1')!r}")
@@ -93,7 +93,7 @@ def look_at_count(step: Step, shown: bytes) -> None:
 
 
 def hear(step: Step, place: int, answer: bytes) -> None:
-    """The answer to a session's line. No client is handed a 93 or a 95."""
+    """Takes the answer to a session's line. Answers 93 and 95 never reach a client."""
     if step.front.sessions[place].stage != Stage.TOLD or not step.front.server.is_up:
         return
     if answer == FAILED:

@@ -1,7 +1,7 @@
-"""The sessions with the server: whose line goes there next, and when the answer may leave.
+"""The sessions with the server: which line each sends next, and when its answer may leave.
 
-A command is put beside the record, sent to the server, and written into the record once it is accepted; then its answer leaves. A session
-takes no other line meanwhile.
+A command is first put beside the record, and then sent to the server. Once it is accepted, it is written into the record, and then its
+answer leaves. Meanwhile the session takes no other line.
 """
 from collections.abc import Iterable
 
@@ -14,29 +14,29 @@ from hpb.front.rights import is_command, refused
 from hpb.record.entries import OK, text_of
 
 OVER = b" CLOSED "
-# The phases in which lines of names go to the server.
+# The phases in which clients' lines go to the server.
 SERVES = (Phase.OPEN, Phase.ANSWERING)
 
 
 def number_of(answer: bytes) -> int:
-    """The number of an `OK`, and else 0."""
+    """The number in an `OK`, or 0 for any other answer."""
     return int(answer[len(OK):]) if answer.startswith(OK.encode()) else 0
 
 
 def tell(step: Step, place: int, line: bytes, purpose: For) -> None:
-    """A session's line, now or once there is a server."""
+    """Gives a session its line. The line is sent now, or once there is a server."""
     step.set_session(place, stage=Stage.TOLD, purpose=purpose, line=line)
     if step.front.server.is_up:
         step.do(Tell(place, line))
 
 
 def free(step: Step, place: int) -> None:
-    """A session has nothing to do any more."""
+    """The session is done with its line."""
     step.put_session(place, Session(step.front.sessions[place].turns))
 
 
 def go_on(step: Step, places: Iterable[int]) -> None:
-    """Hands out answers of these sessions that may leave, and begins their next lines. Names that share a session take turns, each by one
+    """Sends the answers of these sessions that may leave, and begins their next lines. Names that share a session take turns, line by
     line."""
     for place in places:
         if step.front.sessions[place].stage is Stage.ANSWERED:
@@ -50,7 +50,7 @@ def go_on(step: Step, places: Iterable[int]) -> None:
 
 
 def begin(step: Step, place: int, name: str, item: Item) -> None:
-    """One line. If its connection is gone, or its token, the line is dropped."""
+    """Begins a line. If its connection has ended, or its token was removed, the line is dropped."""
     if is_dropped(step, item) or item.connection not in step.front.connections:
         clients.drop(step, item.connection)
     elif item.refusal:
@@ -68,13 +68,13 @@ def begin(step: Step, place: int, name: str, item: Item) -> None:
 
 
 def is_dropped(step: Step, item: Item) -> bool:
-    """Whether the token went by which a line came."""
+    """Whether the line's token was removed."""
     connection = step.front.connections.get(item.connection)
     return connection.is_barred if connection else item.token not in step.front.tokens.known
 
 
 def take_beside(step: Step, places: tuple[int, ...]) -> None:
-    """These commands are found after a crash from now on: they may go to the server."""
+    """These commands are on the disk, so the next start would find them after a crash: they may go to the server."""
     for place, session in enumerate(step.front.sessions if step.front.phase in SERVES else ()):
         if session.stage == Stage.BESIDE and session.beside in places and session.item:
             if is_dropped(step, session.item):
@@ -87,7 +87,7 @@ def take_beside(step: Step, places: tuple[int, ...]) -> None:
 
 
 def take_answer(step: Step, place: int, answer: bytes) -> None:
-    """What the server has answered: to the page, to a close, or to a line of a name."""
+    """Takes the server's answer to a question of the page, to the SHOW after a close, or to a line of a name."""
     session = step.front.sessions[place]
     if session.purpose == For.BOARD:
         (number, _), *others = step.front.questions
@@ -103,7 +103,7 @@ def take_answer(step: Step, place: int, answer: bytes) -> None:
 
 
 def judge(step: Step, place: int, answer: bytes) -> None:
-    """The answer to a line of a name: a command that is new goes into the record, and all else into the log."""
+    """Takes the answer to a line of a name. A command that is newly accepted goes into the record, all else into the log."""
     session = step.front.sessions[place]
     number = number_of(answer) if session.beside is not None else 0
     if session.beside is not None:
@@ -134,7 +134,7 @@ def release(step: Step) -> None:
 
 
 def note_foreign(step: Step, foreign: Foreign) -> None:
-    """Numbers that were given to commands which didn't come through this front."""
+    """Writes an entry about numbers whose commands didn't come through this front."""
     numbers = f"commands {foreign.first} to {foreign.last} of the auction"
     step.say(f"{numbers} stand in no record: this front didn't tell them, and {WHERE_THE_AUDIT_ENDS}")
     step.write("foreign", **{"from": foreign.first, "to": foreign.last})
@@ -142,7 +142,7 @@ def note_foreign(step: Step, foreign: Foreign) -> None:
 
 
 def leave(step: Step, place: int) -> None:
-    """The answer of a session leaves once its entry is on the disk, and all before it."""
+    """Sends a session's answer, if its entry and all entries before that are on the disk."""
     session, ledger = step.front.sessions[place], step.front.ledger
     if session.item is None or session.entry is None or session.entry > ledger.synced:
         return
@@ -155,25 +155,25 @@ def leave(step: Step, place: int) -> None:
 
 
 def give_back(step: Step, beside: int) -> None:
-    """A place beside the record has nothing to be found any more."""
+    """Empties a place beside the record, since its command needn't be found any more."""
     step.do(FreeBeside(beside))
     step.set_ledger(free=(*step.front.ledger.free, beside))
 
 
 def note(step: Step, name: str, line: bytes, answer: bytes) -> None:
-    """What changed nothing is logged."""
+    """Logs a line that changed nothing."""
     step.note("answered", name=name, line=text_of(line), answer=text_of(answer))
 
 
 def tell_close(step: Step, shown: bytes) -> None:
-    """What a close came to, and the record's last entry."""
+    """Publishes the result of a close, with the record's last entry on the disk."""
     number, digest = step.front.ledger.place
     step.do(Publish(f"{text_of(shown)} RECORD {number} {digest}"))
     look_whether_over(step, shown)
 
 
 def look_whether_over(step: Step, shown: bytes) -> None:
-    """An auction that is over ends the front, some time later."""
+    """If the auction is over, the front ends some time later."""
     if OVER in shown:
         seconds = step.front.limits.after_end_seconds
         step.say(f"the auction is over; the front stops in {seconds} seconds")
@@ -182,7 +182,7 @@ def look_whether_over(step: Step, shown: bytes) -> None:
 
 
 def ask_for_board(step: Step, *questions: tuple[int, bytes]) -> None:
-    """The page asks by a session of its own, which is the last."""
+    """Takes questions of the page, which have the last session for themselves."""
     step.set(questions=(*step.front.questions, *questions))
     place = len(step.front.sessions) - 1
     if step.front.questions and step.front.sessions[place].stage == Stage.FREE:

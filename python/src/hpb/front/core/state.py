@@ -1,4 +1,4 @@
-"""What a front has in mind: values that are never changed."""
+"""The state of a front, made of values that are never changed."""
 import enum
 from collections.abc import Mapping
 from dataclasses import dataclass, field
@@ -11,12 +11,12 @@ from hpb.front.tokens import Token, Tokens
 from hpb.record.entries import Entry
 from hpb.rules.tree import Tree
 
-# How long the pauses are between starts of a server that doesn't come up.
+# The first pause before a server that didn't come up is started again, in seconds. Each further pause is twice as long, up to a limit.
 FIRST_PAUSE = 0.05
 
 
 class Phase(enum.IntEnum):
-    """How far a front has come. Before `OPEN` nobody is let in."""
+    """The phases of a front, in their order. Before `OPEN` nobody is let in."""
 
     RECORD = enum.auto()
     ASKING = enum.auto()
@@ -27,7 +27,7 @@ class Phase(enum.IntEnum):
     SHOWING = enum.auto()
     BOARD = enum.auto()
     OPEN = enum.auto()
-    # Lines that it has are answered; the last entry is written; the server ends.
+    # The end: the front answers the lines that it has, writes the record's last entry, and ends the server.
     ANSWERING = enum.auto()
     CLOSING = enum.auto()
     ENDING = enum.auto()
@@ -36,8 +36,8 @@ class Phase(enum.IntEnum):
 
 @dataclass(frozen=True)
 class Setting:
-    """What stays as it is while a front runs. `sessions` are those of names; a board has one more. `record` is the name of its file, and
-    `starts_server` says whether the front starts the server itself."""
+    """The parts of a front that stay the same while it runs. `sessions` counts those of names; a board has one more. `record` is the name
+    of the record's file. `starts_server` says whether the front starts the server itself."""
 
     tree: Tree
     roles: Mapping[str, Role]
@@ -50,7 +50,7 @@ class Setting:
 
 
 class Going(enum.Enum):
-    """Whether a connection stays, goes once its lines are answered, or goes now: then nothing more is written to it."""
+    """Whether a connection stays, leaves once its lines are answered, or is closed. Nothing is written to a closed one."""
 
     STAYS = enum.auto()
     LEAVES = enum.auto()
@@ -59,7 +59,7 @@ class Going(enum.Enum):
 
 @dataclass(frozen=True)
 class Item:
-    """A line that waits, whose it is, and by which word the front refuses it, if it does."""
+    """A waiting line, with its connection and token. If the front refuses the line, `refusal` is the word that says why."""
 
     connection: int
     token: Token
@@ -69,21 +69,21 @@ class Item:
 
 @dataclass(frozen=True)
 class Connection:
-    """One connection. Until its first line has said who it is nothing is known of it."""
+    """A connection. Until its first line has come, it has no token, and counts as unknown."""
 
     peer: str
     network: str
     seen: float
     is_open: bool = False
     token: Token | None = None
-    # How many of its lines have no answer, and how many were taken.
+    # How many of its lines have no answer yet, and how many were taken in all.
     waiting: int = 0
     taken: int = 0
-    # It may send a line; one has come that has to wait; it has ended its lines.
+    # Whether it may send a line; its line that waits for the name's rate, if there is one; and whether it has ended its lines.
     may_send: bool = False
     held: Item | None = None
     has_ended: bool = False
-    # It doesn't read its answers; its token went, and its lines are dropped.
+    # Whether it has stopped reading its answers; and whether its token was removed, so that its lines are dropped.
     is_full: bool = False
     is_barred: bool = False
     going: Going = Going.STAYS
@@ -92,7 +92,8 @@ class Connection:
 
 @dataclass(frozen=True)
 class Name:
-    """Somebody who has a token: the role, the session, the connections, the lines that wait, and how many may still come at once."""
+    """A name of the configuration: its role, its session, its connections and its waiting lines. `credit` is how many lines it might send
+    at once at the time `seen`."""
 
     role: Role
     session: int
@@ -103,7 +104,7 @@ class Name:
 
 
 class For(enum.Enum):
-    """What a session asks the server for."""
+    """The purpose of a session's line: a client's line, the result of a close, the front's start, or a question of the page."""
 
     LINE = enum.auto()
     CLOSE = enum.auto()
@@ -112,7 +113,8 @@ class For(enum.Enum):
 
 
 class Stage(enum.Enum):
-    """How far a session is with its line: a command is put beside the record, the server has it, and the answer waits for the record."""
+    """How far a session's line has come. A command waits beside the record, then for the server, then for its entry; other lines skip the
+    first."""
 
     FREE = enum.auto()
     BESIDE = enum.auto()
@@ -122,7 +124,8 @@ class Stage(enum.Enum):
 
 @dataclass(frozen=True)
 class Session:
-    """A session with the server, which has one line outstanding at most. `turns` are the names whose lines wait; each has one in turn."""
+    """A session with the server, which works on one line at a time. `turns` are the names with waiting lines, in the order of their
+    turns."""
 
     turns: tuple[str, ...] = ()
     stage: Stage = Stage.FREE
@@ -130,7 +133,8 @@ class Session:
     line: bytes = b""
     name: str = ""
     item: Item | None = None
-    # The command's place beside the record; its answer, and the entry that has to be on the disk before that leaves, once it is known.
+    # The command's place beside the record. Once it is known: the answer, and the entry that has to be on the disk before the answer
+    # leaves.
     beside: int | None = None
     answer: bytes = b""
     entry: int | None = None
@@ -138,7 +142,8 @@ class Session:
 
 @dataclass(frozen=True)
 class Server:
-    """Whether it is up, since when; how often it was started since it last answered; and when it is started again, after which pause."""
+    """The server: whether it is up, and since when. `starts` counts its starts since it last answered. `retry_at` is the time of the next
+    start, and `pause` the next pause."""
 
     is_up: bool = False
     since: float = 0.0
@@ -149,7 +154,8 @@ class Server:
 
 @dataclass(frozen=True)
 class Finding:
-    """How far the search for the commands of the last front has come: questions, answers, and the lines that are still to be looked at."""
+    """How far the search for the last front's commands has come: the questions still to ask, the answers, and the commands still to look
+    for."""
 
     questions: tuple[bytes, ...] = ()
     answers: tuple[str, ...] = ()
@@ -163,7 +169,8 @@ class Finding:
 
 @dataclass(frozen=True)
 class Front:
-    """All of it. `time` are seconds that have passed, whatever the clock did; `clock` is what that showed last."""
+    """The whole state of a front. `time` is the seconds that have passed, and never goes back. `clock` is the last reading of the clock,
+    which may."""
 
     setting: Setting
     limits: Limits
@@ -179,14 +186,14 @@ class Front:
     server: Server = Server()
     finding: Finding = Finding()
     questions: tuple[tuple[int, bytes], ...] = ()
-    # When it ends since the auction is over; since when it ends, and how many lines had no answer in time.
+    # When the front ends after the auction is over; when its end began; and how many lines had no answer in time.
     over_at: float | None = None
     stopped_at: float = 0.0
     left: int = 0
 
     @property
     def waiting(self) -> int:
-        """How many lines of those who are in have no answer."""
+        """How many lines of welcomed connections have no answer yet."""
         return sum(self.connections[one].waiting for name in self.names.values() for one in name.connections)
 
 

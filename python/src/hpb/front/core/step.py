@@ -1,4 +1,4 @@
-"""From event to event."""
+"""The step from one state of a front to the next."""
 from hpb.front.core import clients, ending, finding, serving, sessions
 from hpb.front.core.effects import Effect
 from hpb.front.core.events import (
@@ -10,14 +10,14 @@ from hpb.front.core.stepping import Step
 
 
 def step(front: Front, event: Event, clock: float) -> tuple[Front, list[Effect]]:
-    """The front after an event at this time of a clock, in seconds, and the effects, which are to be done in this order. If the clock goes
-    back it stands still for the front meanwhile."""
+    """Takes an event when the clock shows `clock` seconds. Gives the front after the event, and the effects in the order in which to carry
+    them out. If the clock goes back, the front's time stands still."""
     if front.phase == Phase.ENDED:
         return front, []
     taken = Step(front)
     taken.set(time=front.time + max(0.0, clock - front.clock), clock=clock)
     take(taken, event)
-    # An entry that is on the disk may let any answer leave; else only those sessions go on that were changed.
+    # An entry that reaches the disk may let any session's answer leave. After other events, only changed sessions can go on.
     sessions.go_on(taken, range(len(front.sessions)) if isinstance(event, Synced) else sorted(taken.touched))
     finding.go_on(taken)
     ending.go_on(taken)
@@ -25,7 +25,7 @@ def step(front: Front, event: Event, clock: float) -> tuple[Front, list[Effect]]
 
 
 def take(step: Step, event: Event) -> None:
-    """The event itself; what it lets go on is looked at behind it."""
+    """Takes the event itself; `step` then looks what may go on after it."""
     match event:
         case Came() | Opened() | Line() | TooLong() | LinesEnded() | Stuffed() | Waited() | Gone():
             clients.take(step, event)
@@ -48,7 +48,7 @@ def take(step: Step, event: Event) -> None:
 
 
 def take_record(step: Step, event: OfRecord) -> None:
-    """What comes of the record."""
+    """Handles an event of the record."""
     match event:
         case RecordOpened():
             finding.begin(step, event)
@@ -62,7 +62,8 @@ def take_record(step: Step, event: OfRecord) -> None:
 
 
 def tick(step: Step) -> None:
-    """Time has passed: silent connections go, a server is tried again, and an auction that is over ends the front."""
+    """Time has passed: ends silent connections, starts a server again that didn't come up, and ends the front some time after the
+    auction."""
     clients.sweep(step)
     serving.look_at_time(step)
     if step.front.over_at is not None and step.front.time >= step.front.over_at:

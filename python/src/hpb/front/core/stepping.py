@@ -1,4 +1,4 @@
-"""One event on its way through a front: the value as far as it has come, and the effects so far."""
+"""One event on its way through a front: the next state as far as it is made, and the effects so far."""
 from typing import Any
 
 from hpb.front.core.effects import Effect, Field, Finish, MustEnd, Note, Say, Write
@@ -7,13 +7,13 @@ from hpb.front.core.values import changed
 
 
 class Step:
-    """Lives as long as one event is taken. `front` is the next value, which nobody else has yet: until the step is over it is filled in.
-    Fields that change are named by their words."""
+    """Makes the next state of a front for one event. `front` is that state: nobody else has it yet, so it may be changed until the step is
+    over. Methods `set..` take the fields to change by their names."""
 
     def __init__(self, front: Front) -> None:
         self.front = changed(front)
         self.effects: list[Effect] = []
-        # The mappings that were copied for the next value.
+        # Copies of the mappings, for the next state; None as long as they are unchanged.
         self.connections: dict[int, Connection] | None = None
         self.names: dict[str, Name] | None = None
         # The sessions that were changed.
@@ -29,7 +29,7 @@ class Step:
         self.front.__dict__.update(fields)
 
     def own_connections(self) -> dict[int, Connection]:
-        """Those of the next value."""
+        """The connections of the next state, which may be changed."""
         if self.connections is None:
             self.connections = dict(self.front.connections)
             self.set(connections=self.connections)
@@ -54,7 +54,7 @@ class Step:
         return self.put_session(place, changed(self.front.sessions[place], **fields))
 
     def put_session(self, place: int, session: Session) -> Session:
-        """Puts a session in the place of what it was."""
+        """Puts a session in the place of the old one."""
         sessions = self.front.sessions
         self.touched.add(place)
         self.set(sessions=(*sessions[:place], session, *sessions[place + 1 :]))
@@ -83,6 +83,6 @@ class Step:
         self.do(Write(kind, fields))
 
     def finish(self, why: str = "") -> None:
-        """The front has ended; nothing more comes of any event."""
+        """Ends the front: no later event changes anything. `why` is the reason, if it can't go on."""
         self.do(MustEnd(), Finish(why))
         self.set(phase=Phase.ENDED)
