@@ -1,16 +1,18 @@
 """What a command finds in the shell that started it: standard streams that are closed, that fail, or that lead into a file it is given.
 
-What a command says is never written into an auction's file or a record, nor in the place of an answer.
+What a command says is never written into an auction's file or a record, nor in the place of an answer. A signal ends it also while its
+terminal takes nothing, as after Ctrl-S.
 """
 import contextlib
 import functools
 import io
 import os
 import re
+import signal
 import stat
 import sys
 from collections.abc import Callable, Iterator
-from typing import Any
+from typing import Any, Final
 
 from hpb.commands import program_name
 from hpb.plain import plain
@@ -19,18 +21,22 @@ from hpb.streams import STANDARD_ERROR, STANDARD_OUTPUT, hold_closed_streams, wr
 # What stands beside a record, behind its name and a dot.
 _BESIDE = re.compile(r"asked|[1-9][0-9]*")
 _FAILED = 1
+_END_SIGNALS: Final = (signal.SIGTERM, signal.SIGINT, signal.SIGHUP)
+# How long a command that is to end waits for a terminal to take its last words.
+_END_SECONDS = 2.0
 
 
 def from_shell(main: Callable[[], int]) -> Callable[[], int]:
     """A command's `main` with standard streams that can be used.
 
     If standard error leads into a file that a word names nothing is said. If standard output can't be written that is said, and the status
-    isn't 0.
+    isn't 0. SIGINT ends it with 1, and SIGTERM and SIGHUP at once, unless `main` calls `end_by_signals`.
     """
 
     @functools.wraps(main)
     def called() -> int:
         _hold_streams()
+        _end_by(_FAILED, signal.SIGINT)
         try:
             return _ended(main)
         except BrokenPipeError:  # Its reader is gone, and knows.
@@ -78,6 +84,26 @@ class _Output(io.RawIOBase):
         except OSError as fault:
             raise _OutputFails(fault.strerror) from None
         return len(data)
+
+
+def end_by_signals() -> None:
+    """From now on SIGTERM, SIGINT and SIGHUP end the command with 0."""
+    _end_by(0, *_END_SIGNALS)
+
+
+def _end_by(status: int, *numbers: signal.Signals) -> None:
+    """These signals end the command by a SystemExit, and after two seconds in any case. A signal that is ignored stays so."""
+
+    def end(*_: object) -> None:
+        for number in _END_SIGNALS:
+            signal.signal(number, signal.SIG_IGN)
+        signal.signal(signal.SIGALRM, lambda *_: os._exit(status))
+        signal.setitimer(signal.ITIMER_REAL, _END_SECONDS)
+        sys.exit(status)
+
+    for number in numbers:
+        if signal.getsignal(number) is not signal.SIG_IGN:
+            signal.signal(number, end)
 
 
 def say(text: object) -> None:
