@@ -87,7 +87,7 @@ class _Output(io.RawIOBase):
 
 
 def end_by_signals() -> None:
-    """From now on SIGTERM, SIGINT and SIGHUP end the command with 0."""
+    """From now on SIGTERM, SIGINT and SIGHUP end the command with 0, if its output is still there."""
     _end_by(0, *_END_SIGNALS)
 
 
