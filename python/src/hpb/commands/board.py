@@ -9,13 +9,12 @@ Anyone who can reach the address sees the page, without a password. A front serv
 a token. docs/BOARD.md describes the page.
 """
 import argparse
-import signal
 import sys
 import threading
 from collections.abc import Callable
 
 from hpb.commands import parser
-from hpb.commands.shell import from_shell, say
+from hpb.commands.shell import end_by_signals, from_shell, say
 from hpb.pages.following import Follower, NotFollowed, at_port
 from hpb.pages.options import add_options, followed
 from hpb.pages.server import Server
@@ -26,11 +25,9 @@ from hpb.refusals import HpbError, says
 @from_shell
 def main() -> int:
     """Reads the arguments, and returns the status."""
-    signal.signal(signal.SIGTERM, lambda *_: sys.exit(0))
+    end_by_signals()
     try:
         _serve(_read_words())
-    except KeyboardInterrupt:
-        return 0
     except HpbError as fault:
         say(says(fault))
     return 1

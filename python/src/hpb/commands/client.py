@@ -109,7 +109,7 @@ def main() -> int:
             if not line.endswith(b"\n"):
                 raise GivesUp("the last line has no LF and may be half a line: it isn't sent")
             write_all(STANDARD_OUTPUT, shown(client.ask(line)))
-    except (BrokenPipeError, KeyboardInterrupt):
+    except BrokenPipeError:
         return 1
     except (GivesUp, OSError, UnicodeDecodeError) as fault:
         say(fault)

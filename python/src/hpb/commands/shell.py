@@ -1,16 +1,18 @@
 """Standard streams that a command can use, even if they are closed, fail, or lead into a file that the command is given.
 
-Messages never go into an auction's file or a record, nor among the answers.
+Messages never go into an auction's file or a record, nor among the answers. A signal ends a command also while its terminal takes
+nothing, as after Ctrl-S.
 """
 import contextlib
 import functools
 import io
 import os
 import re
+import signal
 import stat
 import sys
 from collections.abc import Callable, Iterator
-from typing import Any
+from typing import Any, Final
 
 from hpb.commands import program_name
 from hpb.plain import plain
@@ -19,18 +21,23 @@ from hpb.streams import STANDARD_ERROR, STANDARD_OUTPUT, hold_closed_streams, wr
 # The endings of the files beside a record, after its name and a dot.
 _BESIDE = re.compile(r"asked|[1-9][0-9]*")
 _FAILED = 1
+_END_SIGNALS: Final = (signal.SIGTERM, signal.SIGINT, signal.SIGHUP)
+# How long a command that is to end waits for a terminal to take its last words.
+_END_SECONDS = 2.0
 
 
 def from_shell(main: Callable[[], int]) -> Callable[[], int]:
     """Gives a command's `main` standard streams that can be used.
 
     If standard error leads into a file that an argument names, nothing is written there. If standard output can't be written, a message
-    says so, and the status isn't 0.
+    says so, and the status isn't 0. SIGINT ends the command with 1. SIGTERM and SIGHUP end it at once, unless `main` calls
+    `end_by_signals`.
     """
 
     @functools.wraps(main)
     def called() -> int:
         _hold_streams()
+        _end_by(_FAILED, signal.SIGINT)
         try:
             return _ended(main)
         except BrokenPipeError:  # Its reader is gone, and knows.
@@ -78,6 +85,26 @@ class _Output(io.RawIOBase):
         except OSError as fault:
             raise _OutputFails(fault.strerror) from None
         return len(data)
+
+
+def end_by_signals() -> None:
+    """From now on SIGTERM, SIGINT and SIGHUP end the command with 0, if its output is still there."""
+    _end_by(0, *_END_SIGNALS)
+
+
+def _end_by(status: int, *numbers: signal.Signals) -> None:
+    """These signals end the command by a SystemExit, and after two seconds in any case. A signal that is ignored stays so."""
+
+    def end(*_: object) -> None:
+        for number in _END_SIGNALS:
+            signal.signal(number, signal.SIG_IGN)
+        signal.signal(signal.SIGALRM, lambda *_: os._exit(status))
+        signal.setitimer(signal.ITIMER_REAL, _END_SECONDS)
+        sys.exit(status)
+
+    for number in numbers:
+        if signal.getsignal(number) is not signal.SIG_IGN:
+            signal.signal(number, end)
 
 
 def say(text: object) -> None:

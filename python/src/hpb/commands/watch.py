@@ -10,11 +10,11 @@ which takes one of the places of `hpb serve --sessions`. A front has no such pla
 docs/BOARD.md describes what it shows.
 """
 import argparse
+import contextlib
 import os
 import re
 import select
 import shutil
-import signal
 import sys
 import termios
 import threading
@@ -23,7 +23,7 @@ import tty
 from typing import Final
 
 from hpb.commands import parser
-from hpb.commands.shell import from_shell, say
+from hpb.commands.shell import end_by_signals, from_shell, say
 from hpb.pages.following import Follower, NotFollowed, at_port
 from hpb.pages.options import add_options, at_front, followed
 from hpb.pages.reaching import look_at_options
@@ -138,7 +138,9 @@ class Screen:
                 if not all([self._obeys(key) for key in _keys()]):
                     break
         finally:
-            termios.tcsetattr(sys.stdin, termios.TCSADRAIN, before)
+            # A terminal that is gone has nothing to be put back. One that is stopped isn't waited for, but for the last line.
+            with contextlib.suppress(termios.error):
+                termios.tcsetattr(sys.stdin, termios.TCSANOW, before)
             sys.stdout.write(_NORMAL)
             sys.stdout.flush()
         if self._watch.fault:
@@ -199,11 +201,9 @@ def _shown(given: argparse.Namespace) -> int:
 def main() -> int:
     """Reads the arguments, and returns the status."""
     given = _read_words()
-    signal.signal(signal.SIGTERM, lambda *_: sys.exit(0))
+    end_by_signals()
     try:
         return _shown(given)
-    except KeyboardInterrupt:
-        return 0
     except BrokenPipeError:
         os.dup2(os.open(os.devnull, os.O_WRONLY), sys.stdout.fileno())
     except HpbError as fault:

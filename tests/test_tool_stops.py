@@ -1,0 +1,131 @@
+"""Tools whose terminal takes nothing, as after Ctrl-S: signals end them all the same, within some seconds."""
+
+from __future__ import annotations
+
+import os
+import pty
+import signal
+import subprocess
+import termios
+from collections.abc import Iterator
+from pathlib import Path
+
+import pytest
+from boards import RULES
+from harness.auctions import FIRST_ROUND
+from harness.conditions import Conditions
+from harness.fronts import start_tool
+from harness.programs import Program
+from harness.serving import ADDRESS, Serve, Server, wait_until
+
+SECONDS = 60
+# What a tool may take to end, on a machine that does other things.
+END_SECONDS = 10
+STOP = b"\x13"
+# The place in the kernel of a process that waits for a terminal to take something.
+WRITING = ("wait_woken", "n_tty_write")
+CONDITIONS = Conditions(environment={"TERM": "xterm", "COLUMNS": "80", "LINES": "24"})
+
+
+class Terminal:
+    """A terminal, and the tool in it. It can be stopped: then whoever writes to it waits."""
+
+    def __init__(self) -> None:
+        self.main, self.other = pty.openpty()
+        self.written = b""
+        self.tool: subprocess.Popen[bytes] | None = None
+
+    def stop(self) -> None:
+        """Ctrl-S."""
+        os.write(self.main, STOP)
+
+    def run(self, name: str, *words: object, input: int | None = None) -> subprocess.Popen[bytes]:
+        """Starts the tool."""
+        here = self.other
+        tool = start_tool(name, *words, input=here if input is None else input, output=here, errors=here, conditions=CONDITIONS)
+        self.tool = tool
+        return tool
+
+    def wait_for(self, text: bytes) -> None:
+        """Reads until this came."""
+        while text not in self.written:
+            self.written += os.read(self.main, 65_536)
+
+    def wait_until_stuck(self) -> None:
+        """The tool waits in a write to the terminal."""
+        assert self.tool
+        where = Path(f"/proc/{self.tool.pid}/wchan")
+        wait_until(lambda: where.read_text() in WRITING, SECONDS, "a write that waits")
+
+    def close(self) -> None:
+        if self.tool:
+            self.tool.kill()
+            self.tool.wait(SECONDS)
+        os.close(self.main)
+        os.close(self.other)
+
+
+@pytest.fixture
+def terminal() -> Iterator[Terminal]:
+    made = Terminal()
+    yield made
+    made.close()
+
+
+@pytest.fixture
+def server(program: Program, room: Path, serve: Serve) -> Server:
+    """A server of the first round, with three places; its definition stands beside its file."""
+    (room / "definition.json").write_bytes(RULES)
+    return serve(program.keep(room / "F", FIRST_ROUND, RULES), 3)
+
+
+def ended(tool: subprocess.Popen[bytes], number: signal.Signals) -> int:
+    """The status by which a signal ends a tool, in time."""
+    tool.send_signal(number)
+    return tool.wait(END_SECONDS)
+
+
+@pytest.mark.parametrize("number", [signal.SIGTERM, signal.SIGINT, signal.SIGHUP])
+@pytest.mark.parametrize("tool", ["watch", "board"])
+def test_what_follows_an_auction_ends_though_its_terminal_is_stopped(
+    tool: str, number: signal.Signals, terminal: Terminal, server: Server, room: Path
+) -> None:
+    words: list[object] = ["--port", server.port, "--definition", room / "definition.json"]
+    if tool == "board":
+        terminal.stop()
+        running = terminal.run(tool, *words, "--listen", f"{ADDRESS}:0")
+    else:
+        running = terminal.run(tool, *words)
+        terminal.wait_for(b"Live.")
+        terminal.stop()
+    terminal.wait_until_stuck()
+    assert ended(running, number) == 0
+
+
+@pytest.mark.parametrize("number", [signal.SIGTERM, signal.SIGINT, signal.SIGHUP])
+@pytest.mark.parametrize("tool", ["client", "replay", "report", "explain", "definition", "verify"])
+def test_what_writes_and_ends_is_ended_though_its_terminal_is_stopped(
+    tool: str, number: signal.Signals, terminal: Terminal, server: Server, room: Path
+) -> None:
+    """By an answer, by help, or by what is wrong with its words."""
+    terminal.stop()
+    read, write = os.pipe()
+    os.write(write, b"SHOW\n")
+    running = terminal.run(tool, server.port if tool == "client" else "--help", input=read)
+    os.close(read)
+    terminal.wait_until_stuck()
+    status = ended(running, number)
+    os.close(write)
+    assert status == (1 if number == signal.SIGINT else -number)
+
+
+def test_watch_gives_back_a_stopped_terminal(terminal: Terminal, server: Server, room: Path) -> None:
+    """Its keys are as before; of the picture the terminal has taken no end."""
+    before = termios.tcgetattr(terminal.other)
+    running = terminal.run("watch", "--port", server.port, "--definition", room / "definition.json")
+    terminal.wait_for(b"Live.")
+    assert termios.tcgetattr(terminal.other) != before
+    terminal.stop()
+    terminal.wait_until_stuck()
+    assert ended(running, signal.SIGTERM) == 0
+    assert termios.tcgetattr(terminal.other) == before
