@@ -152,8 +152,9 @@ def reload(step: Step, event: Reloaded) -> None:
             forget(step, number)
             step.set_connection(number, is_barred=True)
             dismiss(step, number, UNKNOWN)
+        elif connection.may_send and connection.going == Going.STAYS:
+            allow(step, number)
         else:
-            step.set_connection(number, may_send=False)
             let_send(step, number)
 
 
@@ -166,7 +167,13 @@ def let_send(step: Step, number: int) -> None:
     is_ready = connection.is_open and connection.going == Going.STAYS and not connection.has_ended
     if is_ready and not connection.may_send and not connection.held and connection.waiting < limits.lines_waiting:
         step.set_connection(number, may_send=True)
-        step.do(Take(number, limits.line_bytes if connection.token else MOST_FIRST_LINE))
+        allow(step, number)
+
+
+def allow(step: Step, number: int) -> None:
+    """A line that a connection may send, or the one that it was let send before, has so many bytes at most. What it was let send isn't taken
+    back: the line may have come."""
+    step.do(Take(number, step.front.limits.line_bytes if step.front.connections[number].token else MOST_FIRST_LINE))
 
 
 def may_take(step: Step, number: int) -> bool:
