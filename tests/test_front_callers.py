@@ -9,6 +9,7 @@ import socket
 import threading
 import time
 from collections.abc import Iterator
+from pathlib import Path
 
 import pytest
 from fronts import ADDRESS, SECONDS, Caller, Front, break_off, rest_of, token_of
@@ -19,11 +20,18 @@ NODE_A = "NODE a HIGH 0 - PRICE 0 MIN 100 WIN no"
 PAUSE = 0.3
 
 
+def is_stopped(task: Path) -> bool:
+    """Whether a thread stands still by a signal. It is named by its folder in /proc."""
+    return (task / "stat").read_text().rsplit(")", 1)[1].split()[0] == "T"
+
+
 @contextlib.contextmanager
 def stopped_server(front: Front) -> Iterator[None]:
     """The server stands still meanwhile, and so each line waits for its answer."""
     server = front.child("serve")
     os.kill(server, signal.SIGSTOP)
+    # The signal comes some time after the call: until then the server answers.
+    wait_until(lambda: all(is_stopped(task) for task in Path(f"/proc/{server}/task").iterdir()), SECONDS, "the server goes on")
     try:
         yield
     finally:

@@ -168,6 +168,25 @@ def test_a_board_that_comes_or_goes_stays_as_it_was(front: Front, has_board: boo
     assert front.stop().status == 0
 
 
+def test_a_lower_limit_takes_no_line_back_that_was_let_in(front: Front) -> None:
+    """Two lines wait, so by the new limit no more may come; but the front let the client send one more before."""
+    front.start()
+    with front.client("ann").socket as connection, connection.makefile("rb") as reader:
+        server = front.child("serve")
+        os.kill(server, signal.SIGSTOP)
+        connection.sendall(b"WHO x\nWHO x\n")
+        time.sleep(0.3)
+        front.configure({"lines_waiting": 1, "line_bytes": 32})
+        front.signal(signal.SIGHUP)
+        front.wait_until_said(READ_AGAIN)
+        connection.sendall(b"SHOW\n" + 33 * b"x")
+        time.sleep(0.3)
+        os.kill(server, signal.SIGCONT)
+        answers = [reader.readline().split(b" ")[0] for _ in range(3)]
+        assert (answers, reader.read()) == ([b"WHO", b"WHO", b"ROUND"], b"ERR front long\n")
+    assert front.stop().status == 0
+
+
 FIRST_MOMENT = """
 import os, signal, sys
 class Hook:

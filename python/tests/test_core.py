@@ -225,6 +225,20 @@ def test_a_token_that_is_not_known_ends_all_that_waits() -> None:
     assert [type(effect.outcome) for effect in effects if isinstance(effect, Done)] == [NotWelcome]
 
 
+def test_a_token_that_went_says_nothing_about_what_was_sent() -> None:
+    """The server carries out the line that it has: no command is noted as refused."""
+    core = Core(token="a" * 16, known=[("x", 1)])
+    core.connected()
+    tell(core, "WELCOME ann")
+    core.ask(Bid("x", "a", 160))
+    assert "BID x 2 a 160" in sent(core)
+    tell(core, "ERR front token")
+    effects = core.effects()
+    assert [effect.is_fatal for effect in effects if isinstance(effect, Drop)] == [True]
+    assert [type(effect.outcome) for effect in effects if isinstance(effect, Done)] == [NotWelcome]
+    assert not [effect for effect in effects if isinstance(effect, Keep)]
+
+
 def test_a_look_up_that_is_refused_refuses_the_commands_of_its_bidder() -> None:
     core = ready()
     core.ask(Bid("q", "a", 160))

@@ -42,6 +42,51 @@ def test_a_file_of_something_else_is_refused(tmp_path: pathlib.Path) -> None:
     assert (tmp_path / "tickets").read_text() == "dear diary\n"
 
 
+@pytest.mark.parametrize("text", ["a-token-of-ann-without-LF", "SENT BID x 1 a 100\ndear diary"])
+def test_half_a_line_of_something_else_is_refused_too(tmp_path: pathlib.Path, text: str) -> None:
+    (tmp_path / "tickets").write_text(text)
+    with pytest.raises(ValueError):
+        TicketFile(tmp_path / "tickets")
+    assert (tmp_path / "tickets").read_text() == text
+
+
+@pytest.mark.parametrize("rest", ["", "S", "SENT", "SENT BID x 2", "DONE BID x 1 a 10", "\0\0\0", "SENT BID\0\0"])
+def test_what_a_crash_leaves_at_the_end_is_passed_over(tmp_path: pathlib.Path, rest: str) -> None:
+    (tmp_path / "tickets").write_text(f"SENT BID x 1 a 100\n{rest}")
+    (tmp_path / "tickets.new").write_text(rest)
+    file = TicketFile(tmp_path / "tickets")
+    assert [str(command) for command in file.unanswered] == ["Bid(bidder='x', node='a', amount=100, ticket=1)"]
+    assert (tmp_path / "tickets").read_text() == "SENT BID x 1 a 100\n"
+    file.close()
+
+
+def test_a_pipe_is_refused(tmp_path: pathlib.Path) -> None:
+    os.mkfifo(tmp_path / "tickets")
+    with pytest.raises(ValueError, match="regular file"):
+        TicketFile(tmp_path / "tickets")
+
+
+@pytest.mark.parametrize("is_link", [False, True])
+def test_no_other_file_is_written_in_the_place_of_the_new_one(tmp_path: pathlib.Path, is_link: bool) -> None:
+    other = tmp_path / ("diary" if is_link else "tickets.new")
+    other.write_text("dear diary")
+    if is_link:
+        (tmp_path / "tickets.new").symlink_to(other)
+    with pytest.raises((OSError, ValueError)):
+        TicketFile(tmp_path / "tickets")
+    assert other.read_text() == "dear diary"
+
+
+def test_a_link_stays_one_and_the_file_that_it_leads_to_is_one_client_s(tmp_path: pathlib.Path) -> None:
+    (tmp_path / "tickets").write_text("SENT BID x 1 a 100\nSENT BI")
+    (tmp_path / "link").symlink_to(tmp_path / "tickets")
+    file = TicketFile(tmp_path / "link")
+    with pytest.raises(TicketsInUse):
+        TicketFile(tmp_path / "tickets")
+    assert (tmp_path / "link").is_symlink() and (tmp_path / "tickets").read_text() == "SENT BID x 1 a 100\n"
+    file.close()
+
+
 @pytest.mark.parametrize("call", ["write", "fdatasync"])
 def test_nothing_is_sent_that_can_not_be_noted(tmp_path: pathlib.Path, monkeypatch: pytest.MonkeyPatch, call: str) -> None:
     fake = Fake()

@@ -43,6 +43,7 @@ _MOST_WRONG = 3
 _MOST_ANSWER = 256
 _FAILED, _GIVEN_UP = (91, 93), 95
 _ENDS = ("idle", "many")
+_NOT_WELCOME = "token"
 
 
 @dataclass(frozen=True, slots=True)
@@ -252,6 +253,9 @@ class Core:
             return
         if isinstance(answer, FrontRefused) and answer.word in _ENDS:
             self._drop(str(answer))
+        elif isinstance(answer, FrontRefused) and answer.word == _NOT_WELCOME:
+            # The token went meanwhile. This answers no line: the server may have those that were sent.
+            self._end_for_good(f"the token isn't known any more: {text!r}")
         elif isinstance(answer, Refused) and answer.number in (*_FAILED, _GIVEN_UP):
             self._drop(str(answer))
         elif not self._flight:
@@ -265,9 +269,14 @@ class Core:
             return
         is_fatal = text not in [f"ERR front {word}" for word in _ENDS]
         reason = f"the token is answered {text[:100]!r}"
-        self._drop(reason, is_fatal)
         if is_fatal:
-            self.fail(NotWelcome(reason))
+            self._end_for_good(reason)
+        else:
+            self._drop(reason)
+
+    def _end_for_good(self, reason: str) -> None:
+        self._drop(reason, is_fatal=True)
+        self.fail(NotWelcome(reason))
 
     def _drop(self, reason: str, is_fatal: bool = False) -> None:
         self._effects.append(Drop(reason, is_fatal))

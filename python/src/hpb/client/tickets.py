@@ -8,6 +8,7 @@ import errno
 import fcntl
 import os
 import pathlib
+import stat
 
 from hpb.lines import Bid, Close, Command, Stage, Waive, format_line, parse_line
 from hpb.refusals import HpbError
@@ -21,22 +22,26 @@ class TicketFile:
     """The tickets that a client used, by their senders. One client at a time has the file.
 
     `unanswered` are the commands that an earlier client sent without getting an answer, in their order. If the file can't be read
-    or written, OSError is raised; if it is no file of tickets, ValueError.
+    or written, OSError is raised; if it is no file of tickets, or another file has its name with `.new` behind it, ValueError.
     """
 
     def __init__(self, path: str | os.PathLike[str]) -> None:
-        self.path = pathlib.Path(path)
+        # A link stays one: the file that it leads to is locked and written anew.
+        self.path = pathlib.Path(path).resolve()
         self._last: dict[str | None, int] = {}
         self._sent: dict[str, Command] = {}
         # The file may end with half a line.
         self._is_torn = False
-        self._file = os.open(self.path, os.O_RDWR | os.O_CREAT | os.O_APPEND | os.O_CLOEXEC, 0o600)
+        self._file = _open(self.path)
         try:
             fcntl.flock(self._file, fcntl.LOCK_EX | fcntl.LOCK_NB)
             if not os.path.samestat(os.fstat(self._file), os.stat(self.path)):
                 raise BlockingIOError
-            for line in self.path.read_text(encoding="latin-1").split("\n")[:-1]:
+            *lines, rest = self.path.read_text(encoding="latin-1").split("\n")
+            for line in lines:
                 self._take(line)
+            if not _may_be_half(rest):
+                raise ValueError(f"{self.path}: this is no line of tickets: {rest[:100]!r}")
             self._write_anew()
         except BlockingIOError:
             os.close(self._file)
@@ -87,9 +92,12 @@ class TicketFile:
         known = [f"DONE {format_line(_command_of(sender, last))} = OK" for sender, last in self._last.items()]
         lines = known + [f"SENT {line}" for line in self._sent]
         fresh = self.path.with_name(self.path.name + ".new")
-        file = os.open(fresh, os.O_RDWR | os.O_CREAT | os.O_TRUNC | os.O_APPEND | os.O_CLOEXEC, 0o600)
+        file = _open(fresh)
         try:
             fcntl.flock(file, fcntl.LOCK_EX | fcntl.LOCK_NB)
+            if not _may_be_half(os.read(file, len("SENT ")).decode("latin-1")):
+                raise ValueError(f"{fresh}: it is in the way, and no client left it there")
+            os.ftruncate(file, 0)
             _write(file, "".join(f"{line}\n" for line in lines))
             os.fsync(file)
             os.rename(fresh, self.path)
@@ -99,6 +107,21 @@ class TicketFile:
             raise
         self._file, old = file, self._file
         os.close(old)
+
+
+def _open(path: pathlib.Path) -> int:
+    """A file of tickets, or a new one. A link isn't followed, and nothing but a regular file is taken: a pipe would be waited for."""
+    file = os.open(path, os.O_RDWR | os.O_CREAT | os.O_APPEND | os.O_NOFOLLOW | os.O_NONBLOCK | os.O_CLOEXEC, 0o600)
+    if not stat.S_ISREG(os.fstat(file).st_mode):
+        os.close(file)
+        raise ValueError(f"{path}: it isn't a regular file")
+    return file
+
+
+def _may_be_half(text: str) -> bool:
+    """Whether a client may have left this text at the end of a file. A power cut may leave zeros in the place of bytes."""
+    begun = text.rstrip("\0")
+    return begun.startswith(("SENT ", "DONE ")) or "SENT ".startswith(begun) or "DONE ".startswith(begun)
 
 
 def sender_of(command: Command) -> str | None:

@@ -3,7 +3,7 @@ import collections
 
 from hpb.front.core.effects import Abort, Answer, End, Field, Take, Wait
 from hpb.front.core.events import Came, Gone, Line, LinesEnded, OfClient, Opened, Reloaded, Stuffed, TooLong, Waited
-from hpb.front.core.state import Connection, Going, Item, Name
+from hpb.front.core.state import Connection, Going, Item
 from hpb.front.core.stepping import Step
 from hpb.front.limits import BURST_SECONDS
 from hpb.front.rights import FORM, IDLE, LONG, MANY, TOKEN, UNKNOWN, refused, welcome
@@ -118,7 +118,7 @@ def know(step: Step, number: int, line: bytes) -> None:
         step.note("token", peer=connection.peer, outcome="unknown" if line.startswith(TOKEN) else "none")
         dismiss(step, number, UNKNOWN)
         return
-    is_many = not has_room(step, step.front.names[token.name])
+    is_many = not has_room(step, token.name)
     connection = step.set_connection(number, token=token)
     step.note("token", **told_of(connection), outcome=MANY if is_many else "welcome")
     if is_many:
@@ -129,19 +129,21 @@ def know(step: Step, number: int, line: bytes) -> None:
     step.do(Answer(number, welcome(token.name)))
 
 
-def has_room(step: Step, name: Name) -> bool:
-    """Whether the name may have one more connection. At its limit, its longest silent connection that waits for no answer ends, if there is
-    one."""
-    if len(name.connections) < step.front.limits.connections:
-        return True
-    connections = step.front.connections
-    idle = [one for one in name.connections if not connections[one].waiting and connections[one].going == Going.STAYS]
-    if not idle:
-        return False
-    silent = min(idle, key=lambda one: connections[one].seen)
-    forget(step, silent)
-    dismiss(step, silent, MANY)
+def has_room(step: Step, name: str) -> bool:
+    """Whether the name may have one more connection. While it is at its limit, its longest silent connection that waits for nothing ends."""
+    while len(numbers := step.front.names[name].connections) >= step.front.limits.connections:
+        idle = [number for number in numbers if is_idle(step.front.connections[number])]
+        if not idle:
+            return False
+        silent = min(idle, key=lambda number: step.front.connections[number].seen)
+        forget(step, silent)
+        dismiss(step, silent, MANY)
     return True
+
+
+def is_idle(connection: Connection) -> bool:
+    """Whether it stays, and no line of it waits: neither for its answer nor until its name may send one more."""
+    return connection.going == Going.STAYS and not connection.waiting and not connection.held
 
 
 def reload(step: Step, event: Reloaded) -> None:
@@ -153,8 +155,9 @@ def reload(step: Step, event: Reloaded) -> None:
             forget(step, number)
             step.set_connection(number, is_barred=True)
             dismiss(step, number, UNKNOWN)
+        elif connection.may_send and connection.going == Going.STAYS:
+            allow(step, number)
         else:
-            step.set_connection(number, may_send=False)
             let_send(step, number)
 
 
@@ -167,7 +170,13 @@ def let_send(step: Step, number: int) -> None:
     is_ready = connection.is_open and connection.going == Going.STAYS and not connection.has_ended
     if is_ready and not connection.may_send and not connection.held and connection.waiting < limits.lines_waiting:
         step.set_connection(number, may_send=True)
-        step.do(Take(number, limits.line_bytes if connection.token else MOST_FIRST_LINE))
+        allow(step, number)
+
+
+def allow(step: Step, number: int) -> None:
+    """A line that a connection may send, or the one that it was let send before, has so many bytes at most. What it was let send isn't taken
+    back: the line may have come."""
+    step.do(Take(number, step.front.limits.line_bytes if step.front.connections[number].token else MOST_FIRST_LINE))
 
 
 def may_take(step: Step, number: int) -> bool:
@@ -289,7 +298,7 @@ def sweep(step: Step) -> None:
         if connection.is_full and connection.token:
             step.set_connection(number, going=Going.CLOSED)
             step.do(Abort(number))
-        elif not connection.waiting and connection.going == Going.STAYS and not connection.held:
+        elif is_idle(connection):
             dismiss(step, number, IDLE)
 
 
