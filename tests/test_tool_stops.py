@@ -107,7 +107,7 @@ def test_what_follows_an_auction_ends_though_its_terminal_is_stopped(
 def test_what_writes_and_ends_is_ended_though_its_terminal_is_stopped(
     tool: str, number: signal.Signals, terminal: Terminal, server: Server, room: Path
 ) -> None:
-    """By an answer, by help, or by what is wrong with its words."""
+    """By an answer, by help, or by a message about wrong words."""
     terminal.stop()
     read, write = os.pipe()
     os.write(write, b"SHOW\n")
