@@ -117,6 +117,36 @@ def test_an_older_copy_that_comes_meanwhile_ends_the_front(front: Front) -> None
 
 
 @pytest.mark.parametrize(
+    ("lines", "rules", "word"),
+    [
+        (["BID z 1 all 500", "BID w 1 c 100"], definition(), "it has 0 commands of x, and {} has 1"),
+        (["BID x 1 a 100", "CLOSE 1"], definition(), "it has 1 commands of the auctioneer, and {} has 0"),
+        (["BID x 1 a 100", "BID z 1 all 500"], definition().replace(b'"d"', b'"e"'), "no answer to NODE d"),
+    ],
+    ids=["another bidder's", "a close", "another node"],
+)
+def test_another_auction_with_as_many_commands_that_comes_meanwhile_ends_the_front(
+    front: Front, lines: list[str], rules: bytes, word: str
+) -> None:
+    """The files are swapped while the server is down. The other file answers nobody; with the right one the front goes on."""
+    other = front.program.keep(front.folder / "other", lines, rules)
+    front.start()
+    assert [front.ask("ann", "BID x 1 a 100"), front.ask("bob", "BID z 1 all 500")] == ["OK 1", "OK 2"]
+    server = front.child("serve")
+    os.kill(server, signal.SIGSTOP)
+    own = front.folder / "own"
+    front.file.rename(own)
+    other.rename(front.file)
+    os.kill(server, signal.SIGKILL)
+    ran = front.ended(SECONDS)
+    told = f"the file is that of another auction than {front.record.name}: {word.format(front.record.name)}"
+    assert ("STOPPED" in ran.output, told in ran.errors, ran.status) == (False, True, 1), ran
+    own.rename(front.file)
+    front.start()
+    assert front.ask("ann", "BID x 1 a 100") == "OK 1"
+
+
+@pytest.mark.parametrize(
     ("old", "new", "lines", "word"),
     [
         (b'"d"', b'"e"', [], "no answer to NODE d"),

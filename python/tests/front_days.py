@@ -131,6 +131,7 @@ class Day:
             "jumps": [(lambda: self.jump(source.choice([-DAY_SECONDS, DAY_SECONDS, 3.0])), 1)],
             "stops": [(lambda: world.post(events.Stop()), 1)],
             "vanishing": [(self.vanish, 4)],
+            "mislaid": [(self.mislay, 1)],
         }
         return self.benign() + [(self.rude.move, 20)] + [move for kind in sorted(self.faults) for move in faults.get(kind, [])]
 
@@ -138,6 +139,13 @@ class Day:
         if self.world.server.state == "starting":
             self.world.server.state = "down"
             self.world.post(events.ServerFailed("the server doesn't come up: ERR 91 device", False))
+
+    def mislay(self) -> None:
+        """Replaces the file, if the other one lacks accepted commands."""
+        others = [line for line, _ in self.world.disk.accepted() if line.split(" ")[1] in ("x", "y", "z")]
+        if others and self.world.server.state == "up" and self.world.is_admitting and not self.world.mislaid:
+            self.world.lose_server()
+            self.world.mislay_file()
 
     def give_up(self) -> None:
         self.answer_by(b"ERR 95 order")

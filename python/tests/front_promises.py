@@ -4,8 +4,8 @@ from __future__ import annotations
 import enum
 from collections import deque
 
-from front_world import LIMITS, ROLES, Server, Watch, Wire, World, token
-from hpb.front.core import effects, events
+from front_world import LIMITS, ROLES, TREE, Server, Watch, Wire, World, token
+from hpb.front.core import Phase, effects, events
 from hpb.front.core.effects import Effect
 from hpb.front.core.events import Event, Left
 
@@ -17,6 +17,7 @@ BIDDER_MAY = "BID WAIVE SHOW NODE WHO"
 COMMANDS = ("BID", "WAIVE", "CLOSE", "STAGE")
 GOODBYES = (b"ERR front token", b"ERR front many", b"ERR front idle")
 HANDED_TO_NOBODY = (b"ERR 93", b"ERR 95")
+QUESTIONS = [b"SHOW", *(b"NODE " + name.encode() for name in TREE.nodes), *(b"WHO " + name.encode() for name in TREE.bidders)]
 LONG, HALF = b"(a line that is too long)", b"(half a line)"
 END_SECONDS = 10.0
 
@@ -41,6 +42,7 @@ class Promise(enum.Enum):
     CONNECTIONS = "A name has no more connections than it may, and no more are unknown than may be."
     ENDS = "The front ends within ten seconds of its signal, whatever hangs, and says how."
     GOES_ON = "Lines are answered, by the next front if this one ended; nothing hangs."
+    SAME_AUCTION = "After a restart the server gets no line of a name before it has shown the auction that the front goes on with. Else the front ends, and says so."
     AGREES = "When anybody is let in the record has what the file has."
 
 
@@ -92,6 +94,8 @@ class Promises(Watch):
     def forget(self) -> None:
         self.told: dict[int, bytes] = {}
         self.outstanding: set[int] = set()
+        # The questions that the server still has to get since it came up again.
+        self.to_ask: deque[bytes] = deque()
         # All connections of this front; the lines of vanished connections, which may have been sent to the server or dropped.
         self.wires: list[Wire] = []
         self.uncertain: set[bytes] = set()
@@ -111,6 +115,11 @@ class Promises(Watch):
                 self.take(world, world.wires[number], line)
             case events.TooLong(number):
                 self.take(world, world.wires[number], LONG)
+            case events.ServerUp() if world.front and world.front.phase >= Phase.NOTING:
+                self.to_ask = deque(QUESTIONS)
+            case events.Answered(session, answer) if self.to_ask:
+                self.outstanding.discard(session)
+                self.to_ask.popleft()
             case events.Answered(session, answer):
                 self.outstanding.discard(session)
                 # An answer 93 or 95 goes to no client.
@@ -123,6 +132,7 @@ class Promises(Watch):
                     wire.is_barred = wire.is_barred or bool(wire.name) and wire.token != token(wire.name, world.tokens[wire.name])
             case events.ServerGone() | events.ServerFailed():
                 self.outstanding.clear()
+                self.to_ask.clear()
             case events.Stop():
                 self.stopped_at = self.stopped_at or world.passed
         self.look_at_time(world)
@@ -161,6 +171,8 @@ class Promises(Watch):
                 self.look_at_time(world)
                 require(bool(why or world.published or world.said), Promise.ENDS, "it ended in silence")
                 require(not why.startswith(("the file has", "the server ended by")), Promise.NOTHING_LOST, why)
+                is_other = why.startswith("the file is that of another auction than the record: it has ")
+                require(is_other == (world.mislaid is not None), Promise.SAME_AUCTION, why)
 
     def look_at_answer(self, world: World, wire: Wire, line: bytes) -> None:
         require(line[:6] not in HANDED_TO_NOBODY, Promise.NO_93, line)
@@ -196,6 +208,10 @@ class Promises(Watch):
         """A line to the server."""
         require(session not in self.outstanding, Promise.ONE_OUTSTANDING, line)
         self.outstanding.add(session)
+        if self.to_ask:
+            require(line == self.to_ask[0], Promise.SAME_AUCTION, line)
+            return
+        require(world.mislaid is None or world.server.state != "up" or line in QUESTIONS, Promise.SAME_AUCTION, line)
         is_again = self.told.get(session) == line
         self.told[session] = line
         if not self.has_admitted:
@@ -244,4 +260,4 @@ def answers_of(wire: Wire) -> list[bytes]:
 
 def kept(world: World) -> list[tuple[str, str]]:
     """The commands of the file, as the record should have them."""
-    return [(line, f"OK {number}") for number, line in enumerate(world.server.file, 1)]
+    return [(line, f"OK {number}") for number, line in enumerate((world.mislaid or world.server).file, 1)]

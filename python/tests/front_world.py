@@ -169,6 +169,8 @@ class World:
     front: Front | None = None
     disk: Disk = field(default_factory=Disk)
     server: Server = field(default_factory=Server)
+    # The server with the right file, while `server` has another one.
+    mislaid: Server | None = None
     wires: dict[int, Wire] = field(default_factory=dict)
     leaving: list[tuple[int, str]] = field(default_factory=list)
     timers: list[tuple[float, int]] = field(default_factory=list)
@@ -196,6 +198,7 @@ class World:
     def kill(self) -> None:
         """The server and all connections end with it."""
         self.front = None
+        self.server, self.mislaid = self.mislaid or self.server, None
         self.disk.crash(self.source)
         self.server.die(self.source)
         self.wires, self.leaving, self.timers, self.asked = {}, [], [], []
@@ -274,6 +277,14 @@ class World:
         if self.server.state == "up":
             self.server.die(self.source)
             self.server.state = "lost"
+
+    def mislay_file(self) -> None:
+        """Replaces the file of a lost server. The other file has as many commands, all from one bidder and the auctioneer."""
+        self.mislaid, self.server = self.server, Server(state="lost")
+        for count in range(len(self.mislaid.file)):
+            ticket = count // 2 + 1
+            self.server.judge(b"CLOSE %d" % ticket if count % 2 else b"BID w %d c %d" % (ticket, 1000 * ticket))
+        assert len(self.server.file) == len(self.mislaid.file)
 
     # Moves of the world.
 

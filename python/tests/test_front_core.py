@@ -21,7 +21,7 @@ SEEDS, MORE_SEEDS = 10, 100
 PURE = {"collections", "dataclasses", "enum", "hpb", "re", "typing"}
 
 
-@pytest.mark.parametrize("faults", [*ALL.split(), "", "slow", "hangs", ALL, f"{ALL} slow", f"{ALL} hangs"])
+@pytest.mark.parametrize("faults", [*ALL.split(), "", "slow", "hangs", "mislaid", "mislaid kills", ALL, f"{ALL} slow", f"{ALL} hangs"])
 def test_each_promise_is_kept_on_days_with_these_faults(faults: str) -> None:
     for seed in range(SEEDS):
         Day(seed, frozenset(faults.split())).run()

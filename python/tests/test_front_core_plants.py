@@ -8,7 +8,7 @@ import pytest
 
 from front_days import Day
 from front_promises import Broken, Promise
-from hpb.front.core import clients, ending, finding, serving, sessions
+from hpb.front.core import clients, ending, finding, matching, serving, sessions
 from hpb.front.core.effects import Wake
 from hpb.front.core.ledger import Held, Ledger
 from hpb.front.core.state import Connection, For, Item, Stage
@@ -125,7 +125,7 @@ def failed_disk_handed_on(patch: pytest.MonkeyPatch) -> None:
 
 def not_told_again(patch: pytest.MonkeyPatch) -> None:
     """A server that comes again doesn't get the lines that have no answer."""
-    patch.setattr(serving, "Tell", lambda place, line: Wake(0.0))
+    patch.setattr(sessions, "tell_again", lambda step, place: step.do(Wake(0.0)))
 
 
 def more_lines_than_may_wait(patch: pytest.MonkeyPatch) -> None:
@@ -195,6 +195,27 @@ def answered_behind_its_end(patch: pytest.MonkeyPatch) -> None:
     patch.setattr(clients, "sweep", sweep)
 
 
+def other_file_gone_on_with(patch: pytest.MonkeyPatch) -> None:
+    """After a restart the front compares the COUNT alone."""
+    patch.setattr(matching, "compare", lambda step, answers: "")
+
+
+def told_before_it_is_known(patch: pytest.MonkeyPatch) -> None:
+    """A restarted server gets lines at once."""
+    patch.setattr(matching, "begin", lambda step: serving.tell_again(step))
+
+
+def told_after_its_token_went(patch: pytest.MonkeyPatch) -> None:
+    """A line that waited for a restarted server is sent, even if its token was removed meanwhile."""
+    tell_again = sessions.tell_again
+
+    def blind(step: Step, place: int) -> None:
+        step.set_session(place, is_sent=True)
+        tell_again(step, place)
+
+    patch.setattr(sessions, "tell_again", blind)
+
+
 PLANTS: list[tuple[Plant, Promise, str]] = [
     (answer_before_sync, Promise.OK_IS_KEPT, ""),
     (entry_lost_at_kill, Promise.NOTHING_LOST, "kills"),
@@ -216,6 +237,9 @@ PLANTS: list[tuple[Plant, Promise, str]] = [
     (more_lines_a_second, Promise.RATE, "slow"),
     (more_connections, Promise.CONNECTIONS, ""),
     (let_in_before_it_is_found, Promise.AGREES, "kills"),
+    (other_file_gone_on_with, Promise.SAME_AUCTION, "mislaid"),
+    (told_before_it_is_known, Promise.SAME_AUCTION, "losses"),
+    (told_after_its_token_went, Promise.REVOKED, "losses reloads slow"),
 ]
 
 

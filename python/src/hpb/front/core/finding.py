@@ -2,7 +2,7 @@
 record before anybody is let in."""
 from typing import Any
 
-from hpb.front.core import sessions
+from hpb.front.core import matching, sessions
 from hpb.front.core.effects import Admit, EmptyBeside, Publish, StartBoard
 from hpb.front.core.events import Left, RecordOpened
 from hpb.front.core.ledger import WHERE_THE_AUDIT_ENDS, Foreign, Held
@@ -11,17 +11,15 @@ from hpb.front.core.stepping import Step
 from hpb.front.core.values import changed
 from hpb.front.rights import sender_and_ticket
 from hpb.record.entries import Entry, text_of
-from hpb.rules.told import NotTold, look_whose, read_told
+from hpb.rules.told import NotTold
 
 # The session for questions to the server before anybody is let in.
-FIRST = 0
+FIRST = matching.FIRST
 
 
 def begin(step: Step, event: RecordOpened) -> None:
     """The record is open: asks the server for the state of the auction."""
-    tree = step.front.setting.tree
-    questions = ["SHOW", *(f"NODE {name}" for name in tree.nodes), *(f"WHO {bidder}" for bidder in tree.bidders)]
-    asked = tuple(question.encode() for question in questions)
+    asked = matching.questions_of(step.front.setting.tree)
     # A command beside the record may be in the record already: such a one isn't looked for.
     left = tuple(one for one in event.left if one.asked or is_open(one, event))
     step.set(phase=Phase.ASKING, finding=Finding(asked, (), event.used, event.foreign, left=left))
@@ -59,15 +57,12 @@ def hear(step: Step, answer: bytes) -> None:
     if questions:
         sessions.tell(step, FIRST, questions[0], For.START)
         return
-    tree = step.front.setting.tree
     try:
-        told = read_told(tree, finding.answers)
-        look_whose(tree, told)
-        whos = {bidder: told.whos[bidder].ticket for bidder in tree.bidders}
+        used = matching.tickets_in(step.front.setting.tree, finding.answers)
     except (NotTold, LookupError) as fault:
         step.finish(f"the server has another auction than the file: {fault}")
         return
-    change(step, used={None: told.shown.next_ticket - 1, **whos})
+    change(step, used=used)
     step.set(phase=Phase.LOOKING)
     look(step)
 
@@ -129,6 +124,8 @@ def note(step: Step) -> None:
     sessions.release(step)
     if (count := sum(finding.used.values())) > step.front.ledger.count:
         sessions.note_foreign(step, Foreign(step.front.ledger.count + 1, count))
+    # From here on the ledger knows the senders of all commands in the file.
+    step.set_ledger(used=finding.used, has_strangers=False)
     step.set(phase=Phase.NOTING)
     go_on(step)
 

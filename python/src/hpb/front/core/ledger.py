@@ -4,6 +4,7 @@ from dataclasses import dataclass, field
 
 from hpb.front.core.effects import Write
 from hpb.front.core.values import changed
+from hpb.front.rights import sender_and_ticket
 from hpb.record.entries import OK, Place, text_of
 
 WHERE_THE_AUDIT_ENDS = "the audit ends there"
@@ -42,10 +43,13 @@ class Ledger:
 
     `count` is how many commands the record has once all entries are written. `written` and `synced` count entries since this front's start:
     those handed out, and those on the disk. `place` is behind the last entry on the disk. `told` has the places of commands that were sent
-    to the server and have no answer yet.
+    to the server and have no answer yet. `used` has the last ticket of each sender among the first `count` commands. If `has_strangers`,
+    others have sent commands since the start, and `used` lacks those.
     """
 
     count: int = 0
+    used: Mapping[str | None, int] = field(default_factory=dict)
+    has_strangers: bool = False
     written: int = 0
     synced: int = 0
     place: Place = Place()
@@ -93,3 +97,8 @@ class Ledger:
         """The command with the next number goes into the record."""
         held = {number: held for number, held in self.held.items() if number != self.count + 1}
         return changed(self, count=self.count + 1, held=held, written=self.written + 1)
+
+    def use(self, line: bytes) -> "Ledger":
+        """Counts the command's ticket as used by its sender."""
+        sender, ticket = sender_and_ticket(line)
+        return changed(self, used={**self.used, sender: max(self.used.get(sender, 0), ticket)})

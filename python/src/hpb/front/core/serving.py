@@ -1,8 +1,8 @@
 """Keeps a server running: starts it again when it ends, checks its file against the record, and sends lines without an answer again."""
 import re
 
-from hpb.front.core import ending, finding, sessions
-from hpb.front.core.effects import DropServer, StartServer, Tell, Wake
+from hpb.front.core import ending, finding, matching, sessions
+from hpb.front.core.effects import DropServer, StartServer, Wake
 from hpb.front.core.events import Answered, OfServer, ServerEnded, ServerFailed, ServerGone, ServerUp, SessionOpened
 from hpb.front.core.state import FIRST_PAUSE, For, Phase, Stage
 from hpb.front.core.stepping import Step
@@ -40,12 +40,21 @@ def start(step: Step) -> None:
 
 
 def begin(step: Step) -> None:
-    """The server is up: it gets each line again that has no answer."""
-    step.set_server(is_up=True, since=step.front.time, pause=FIRST_PAUSE)
+    """The server has come up. Once the last front's commands are found, the server is first asked whether it has the same auction."""
+    step.set_server(since=step.front.time, pause=FIRST_PAUSE)
     step.note("restart", what="server", outcome="started")
+    if step.front.phase >= Phase.NOTING:
+        matching.begin(step)
+    else:
+        tell_again(step)
+
+
+def tell_again(step: Step) -> None:
+    """The server is up: it gets each line again that has no answer."""
+    step.set_server(is_up=True)
     for place, session in enumerate(step.front.sessions):
         if session.stage == Stage.TOLD:
-            step.do(Tell(place, session.line))
+            sessions.tell_again(step, place)
 
 
 def try_again(step: Step, why: str, is_final: bool) -> None:
@@ -68,7 +77,7 @@ def go_on_without(step: Step, how: str) -> None:
     """The server has ended, and is started again at once."""
     server = step.front.server
     starts = 0 if step.front.time - server.since > STEADY else server.starts
-    step.set_server(is_up=False, starts=starts)
+    step.set_server(is_up=False, starts=starts, questions=())
     if step.front.phase != Phase.ENDING:
         step.say(f"the server is gone{how}; it is started again")
         step.note("restart", what="server", outcome="gone", why=how.strip(" ()"))
@@ -94,14 +103,18 @@ def look_at_count(step: Step, shown: bytes) -> None:
 
 def hear(step: Step, place: int, answer: bytes) -> None:
     """Takes the answer to a session's line. Answers 93 and 95 never reach a client."""
-    if step.front.sessions[place].stage != Stage.TOLD or not step.front.server.is_up:
+    asks = bool(step.front.server.questions)
+    if not asks and (step.front.sessions[place].stage != Stage.TOLD or not step.front.server.is_up):
         return
     if answer == FAILED:
         step.finish("the disk of the file failed: see docs/OPERATIONS.md, after a 91 or 93. Lines without an answer are looked "
                     "for in the file when the front is started again")
     elif answer == GIVEN_UP:
-        step.set_server(is_up=False)
+        step.set_server(is_up=False, questions=())
         step.do(DropServer())
+    elif asks:
+        if matching.hear(step, answer):
+            tell_again(step)
     else:
         step.set_server(starts=0)
         if step.front.sessions[place].purpose == For.START:

@@ -25,9 +25,23 @@ def number_of(answer: bytes) -> int:
 
 def tell(step: Step, place: int, line: bytes, purpose: For) -> None:
     """Gives a session its line. The line is sent now, or once there is a server."""
-    step.set_session(place, stage=Stage.TOLD, purpose=purpose, line=line)
+    step.set_session(place, stage=Stage.TOLD, purpose=purpose, line=line, is_sent=step.front.server.is_up)
     if step.front.server.is_up:
         step.do(Tell(place, line))
+
+
+def tell_again(step: Step, place: int) -> None:
+    """Sends a line without an answer to a server that has come up. If no server had the line, and its token was removed, drops it."""
+    session = step.front.sessions[place]
+    if session.is_sent or session.item is None or not is_dropped(step, session.item):
+        step.set_session(place, is_sent=True)
+        step.do(Tell(place, session.line))
+        return
+    if session.beside is not None:
+        step.set(ledger=step.front.ledger.judged(session.beside))
+        give_back(step, session.beside)
+    clients.drop(step, session.item.connection)
+    free(step, place)
 
 
 def free(step: Step, place: int) -> None:
@@ -127,7 +141,7 @@ def release(step: Step) -> None:
         if isinstance(found, Foreign):
             note_foreign(step, found)
             continue
-        step.set(ledger=step.front.ledger.accept())
+        step.set(ledger=step.front.ledger.accept().use(found.line))
         step.do(found.entry(step.front.ledger.count))
         if found.session is not None:
             step.set_session(found.session, entry=step.front.ledger.written)
@@ -138,7 +152,7 @@ def note_foreign(step: Step, foreign: Foreign) -> None:
     numbers = f"commands {foreign.first} to {foreign.last} of the auction"
     step.say(f"{numbers} stand in no record: this front didn't tell them, and {WHERE_THE_AUDIT_ENDS}")
     step.write("foreign", **{"from": foreign.first, "to": foreign.last})
-    step.set_ledger(count=foreign.last)
+    step.set_ledger(count=foreign.last, has_strangers=True)
 
 
 def leave(step: Step, place: int) -> None:

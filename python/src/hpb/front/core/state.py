@@ -131,6 +131,8 @@ class Session:
     stage: Stage = Stage.FREE
     purpose: For = For.LINE
     line: bytes = b""
+    # Whether a server had the line. If not, the line waits for one.
+    is_sent: bool = False
     name: str = ""
     item: Item | None = None
     # The command's place beside the record. Once it is known: the answer, and the entry that has to be on the disk before the answer
@@ -143,13 +145,15 @@ class Session:
 @dataclass(frozen=True)
 class Server:
     """The server: whether it is up, and since when. `starts` counts its starts since it last answered. `retry_at` is the time of the next
-    start, and `pause` the next pause."""
+    start, and `pause` the next pause. After a restart the server is up once it has answered `questions`; `answers` are those so far."""
 
     is_up: bool = False
     since: float = 0.0
     starts: int = 0
     retry_at: float | None = None
     pause: float = FIRST_PAUSE
+    questions: tuple[bytes, ...] = ()
+    answers: tuple[str, ...] = ()
 
 
 @dataclass(frozen=True)
