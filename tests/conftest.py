@@ -10,6 +10,7 @@ from __future__ import annotations
 
 import os
 import shutil
+import signal
 import tempfile
 from collections.abc import Callable, Iterator
 from contextlib import AbstractContextManager, ExitStack, suppress
@@ -57,6 +58,9 @@ def pytest_configure(config: pytest.Config) -> None:
     package.
     """
     os.environ.update(with_package(os.environ))
+    if signal.getsignal(signal.SIGINT) is signal.SIG_IGN:
+        # A shell ignores it for what it starts in the background, and each process that is started here would inherit that.
+        signal.signal(signal.SIGINT, signal.default_int_handler)
     if os.geteuid() == 0:
         with suppress(PermissionError):
             leave_mounts()

@@ -268,3 +268,37 @@ def test_a_shell_that_fails_is_heard_of_and_nothing_comes_of_any_event_afterward
         machine.post(events.RecordOpened(0, {}, 0, (), Place()))
     machine.post(events.Failed("another"))
     assert done == []
+
+
+def written_by(loses: Callable[[pytest.MonkeyPatch, asyncio.AbstractEventLoop], None]) -> list[Event]:
+    """The events for one entry, if memory is refused to the thread that has written it."""
+    told: list[Event] = []
+
+    async def writes() -> None:
+        with pytest.MonkeyPatch.context() as patch:
+            record = SlowRecord()
+            record.may_write.set()
+            recorder = Recorder(record, told.append)
+            loses(patch, asyncio.get_running_loop())
+            recorder.write(effects.Write("a", {}))
+            async with asyncio.timeout(SECONDS):
+                while not told:
+                    await asyncio.sleep(0.01)
+
+    asyncio.run(writes())
+    return told
+
+
+def refuse(*_: object) -> None:
+    """A request for memory that is refused."""
+    raise MemoryError
+
+
+def test_a_thread_that_is_lost_with_its_result_ends_the_front() -> None:
+    told = written_by(lambda patch, loop: patch.setattr("concurrent.futures.Future.set_result", refuse))
+    assert isinstance(told[0], events.Failed) and "the thread that writes has ended" in told[0].why
+
+
+def test_a_result_that_is_not_handed_over_is_found() -> None:
+    told = written_by(lambda patch, loop: patch.setattr(loop, "call_soon_threadsafe", refuse))
+    assert isinstance(told[0], events.Synced)

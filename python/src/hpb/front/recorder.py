@@ -1,6 +1,7 @@
 """The record of a front on its disk: threads of their own write the entries, in the order in which they came (docs/FRONT.md)."""
 import asyncio
 import os
+import threading
 from collections.abc import Callable
 from concurrent.futures import ThreadPoolExecutor
 from typing import Any, Generic, Protocol, TypeVar
@@ -14,6 +15,8 @@ from hpb.record.asked import Asked
 
 # One write takes at most so many entries, and one sync at most so many commands beside the record.
 MOST_AT_ONCE = 128
+# How long a result is waited for until it is looked whether the thread has lost it, in seconds.
+LOOK_SECONDS = 1.0
 
 Item = TypeVar("Item")
 Beside = PutBeside | FreeBeside | EmptyBeside
@@ -89,7 +92,8 @@ class Writer(Generic[Item]):
         self.call, self.post = call, post
         self.waiting: list[Item] = []
         self.writing: asyncio.Task[None] | None = None
-        self.thread = ThreadPoolExecutor(1)
+        self.name = f"writer-{id(self)}"
+        self.thread = ThreadPoolExecutor(1, self.name)
 
     def add(self, item: Item) -> None:
         self.waiting.append(item)
@@ -102,7 +106,7 @@ class Writer(Generic[Item]):
             items, self.waiting = self.waiting[:MOST_AT_ONCE], self.waiting[MOST_AT_ONCE:]
             # Any failure, even a lack of memory, ends the front with a message: without the record nobody can be answered.
             try:
-                event = await loop.run_in_executor(self.thread, self.call, items)
+                event = await self.made(items)
             except Exception as fault:
                 self.post(Failed(f"the record can't be written: {fault if isinstance(fault, (OSError, Damaged)) else repr(fault)}"))
                 return
@@ -110,6 +114,23 @@ class Writer(Generic[Item]):
                 # It is called later, so that a failure of it isn't taken for one of the record.
                 loop.call_soon(self.post, event)
         self.writing = None
+
+    async def made(self, items: list[Item]) -> Event | None:
+        """The event of the call. If memory is refused to the thread when it hands over the result, the result or the thread is lost: that is
+        noticed after a second. MemoryError if it was the thread."""
+        result = self.thread.submit(self.call, items)
+        handed_over = asyncio.wrap_future(result)
+        # A failure is taken from the result itself.
+        handed_over.add_done_callback(lambda ended: ended.cancelled() or ended.exception())
+        while not (handed_over.done() or result.done()):
+            await asyncio.wait({handed_over}, timeout=LOOK_SECONDS)
+            if not result.done() and not self.is_alive():
+                raise MemoryError("the thread that writes has ended")
+        return result.result()
+
+    def is_alive(self) -> bool:
+        """Whether the thread runs."""
+        return any(thread.name.startswith(self.name) for thread in threading.enumerate())
 
 
 class Recorder:
