@@ -40,7 +40,7 @@ ELSEWHERE: dict[str, str] = {
         "def test_a_waiver_goes_out_alone_and_bids_go_out_behind_it(; def test_a_waiver_whose_line_was_lost_is_never_numbered_anew("
     ),
     """The clients of CLIENTS ..""": "def test_no_command_is_lost_or_counted_twice_wherever_a_connection_ends(",
-    """Of each session ..""": "The first that was answered by 93 may have been kept,",
+    """Of each session ..""": "The first bid that was answered by 93 may have been kept",
     """An answer waits .. In a session these .. Their answers leave .. A client that sends many .. A client that ends ..""": (
         "def test_the_first_answers_leave_at_once(; most_in_flight"
     ),
