@@ -1,7 +1,7 @@
 """Each call to the system by a front and its page, and each request for memory, fails once. Nothing hangs, nothing that was
 acknowledged is lost, and each failure is reported.
 
-In the gate it is a sample of two minutes, with a seed that is printed; with `--long`, every one of them.
+It is a sample of two minutes, with a seed that is printed; with `--long`, every one of them. The gate leaves both out.
 """
 
 from __future__ import annotations
