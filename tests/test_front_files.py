@@ -69,12 +69,12 @@ def refusal(path: Path) -> str:
 def test_a_name_of_what_is_made_beside_another_file_is_refused(log: str, fields: dict[str, str], field: str, owner: str, tmp_path: Path) -> None:
     (tmp_path / "C-of-yesterday").mkdir()
     said = refusal(configured(tmp_path, log, **fields))
-    assert said.startswith(f"{field}: ") and f" is a name of what is made beside the {owner}, " in said
+    assert said.startswith(f"{field}: ") and f" is the name of a file that is made beside the {owner}, " in said
 
 
 def test_a_configuration_that_its_log_would_move_over_is_refused(tmp_path: Path) -> None:
     moved = configured(tmp_path, "C").rename(tmp_path / "C.1")
-    assert " is a name of what is made beside the log, " in refusal(moved)
+    assert " is the name of a file that is made beside the log, " in refusal(moved)
 
 
 @pytest.mark.parametrize(
@@ -104,7 +104,7 @@ def test_another_name_of_the_same_file_is_refused(name: str, tmp_path: Path) -> 
 def test_a_link_to_a_name_of_the_log_is_refused(tmp_path: Path) -> None:
     (tmp_path / "auction.1").write_bytes(b"an auction")
     (tmp_path / "F").symlink_to("auction.1")
-    assert refusal(configured(tmp_path, "auction")).startswith(f"file: {tmp_path / 'F'} is a name of what is made beside the log")
+    assert refusal(configured(tmp_path, "auction")).startswith(f"file: {tmp_path / 'F'} is the name of a file that is made beside the log")
 
 
 # Rotation.
@@ -245,7 +245,7 @@ def test_a_log_that_would_be_moved_over_the_auction_is_refused(front: Front) -> 
     ran = front.run()
     assert (ran.status, ran.output) == (2, "")
     assert ran.errors == (
-        f"front: file: {auction} is a name of what is made beside the log, {front.folder / 'auction'}: choose another\n"
+        f"front: file: {auction} is the name of a file that is made beside the log, {front.folder / 'auction'}: choose another\n"
     )
     front.config.write_text(text)
     front.start()

@@ -98,7 +98,7 @@ def test_a_server_that_comes_again_with_a_stranger_s_command_ends_the_front() ->
     world.server.judge(b"BID y 1 b 150")
     for _ in range(2):
         world.move_server()
-    assert world.ends[0].startswith("the file has 2 commands, and the record explains 1 at most: it was told commands by another way")
+    assert world.ends[0].startswith("the file has 2 commands, and the record explains 1 at most: it got commands by another way")
 
 
 def test_a_server_that_comes_again_with_an_older_file_ends_the_front() -> None:
@@ -137,7 +137,7 @@ def test_a_stop_before_anybody_is_let_in_ends_at_once_and_says_so(moves: int) ->
         world.move_disk()
     assert not world.is_admitting
     world.post(events.Stop())
-    assert world.ends == [""] and world.said[-1] == "it was told to stop before clients were let in"
+    assert world.ends == [""] and world.said[-1] == "it was stopped before clients were let in"
 
 
 # The end.

@@ -109,7 +109,7 @@ def told(answer: Answer | HpbError, kind: type[Told]) -> Told:
     if isinstance(answer, HpbError):
         raise answer
     if not isinstance(answer, kind):
-        raise NoAnswer(f"this is no answer to what was asked: {answer}")
+        raise NoAnswer(f"this is no answer to that line: {answer}")
     return answer
 
 

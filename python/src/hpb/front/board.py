@@ -90,7 +90,7 @@ class Board:
                 entry = json.loads(line)
                 self.log.write(entry.pop("kind"), **{name: value for name, value in entry.items() if name != "at"})
             except (ValueError, KeyError, TypeError, AttributeError):
-                self.say("the board writes what is no line of a log")
+                self.say("the board wrote something that is no line of a log")
 
     async def answer(self, connection: socket.socket) -> None:
         """Answers the page's questions, one after the other, until it closes the connection."""

@@ -130,8 +130,8 @@ class Config:
         self.look_at_transport(truth(given, "plain"))
         self.shared_network = truth(given, "shared_network")
         if self.port and not self.shared_network:
-            raise Wrong("port: a server that runs already is reached by each account of this machine, and may be told commands by it; "
-                        "shared_network = true says that this is meant")
+            raise Wrong("port: each account of this machine reaches a server that runs already, and can send it commands; if that is meant, "
+                        "set shared_network = true")
         look_at_files(self.files())
 
     def look_at_transport(self, plain: bool) -> None:

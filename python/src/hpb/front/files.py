@@ -79,10 +79,10 @@ def look_at_files(files: list[Kept]) -> None:
 def look_beside(one: Kept, other: Kept) -> None:
     """Raises a Wrong if a file has a name that is kept for files made beside the other, or leads to the same file as one of these."""
     if any(other.would_make(name) for name in one.names()):
-        raise Wrong(f"{one.field}: {one.path} is a name of what is made beside the {other.field}, {other.path}: choose another")
+        raise Wrong(f"{one.field}: {one.path} is the name of a file that is made beside the {other.field}, {other.path}: choose another")
     for made in other.made():
         if identities(made) and identities(made) == identities(one.path):
-            raise Wrong(f"{one.field}: {one.path} is the same file as {made}, which is a name of what is made beside the {other.field}")
+            raise Wrong(f"{one.field}: {one.path} is the same file as {made}, which is the name of a file that is made beside the {other.field}")
 
 
 def identities(path: str) -> list[Identity]:

@@ -96,7 +96,7 @@ def read_words(text: str, name: str) -> argparse.Namespace:
     words = Words(prog=name, description=text, formatter_class=argparse.RawDescriptionHelpFormatter)
     words.add_argument("--config", required=True, help="the configuration, a file of TOML")
     words.add_argument("--make-tokens", action="store_true", help="make the file of tokens, with one for each name, and end")
-    words.add_argument("--foreign", action="store_true", help="go on if the file was told commands by another way; the audit ends there")
+    words.add_argument("--foreign", action="store_true", help="go on if the file got commands by another way; the audit ends there")
     words.add_argument("--set-aside", action="store_true", help="go on if the record is damaged and has no backup; all from there on is set aside, and the audit ends there")
     commands = words.add_subparsers(dest="command", metavar="tokens", help="change the file of tokens; SIGHUP makes a front read it")
     tokens = commands.add_parser("tokens", help="add, revoke or list tokens").add_subparsers(dest="what", required=True)

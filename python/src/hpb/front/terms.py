@@ -41,7 +41,7 @@ class Reload:
             try:
                 config, terms = await asyncio.to_thread(read_terms, self.config.path, self.config)
             except (Wrong, OSError, RuntimeError, MemoryError) as fault:
-                self.say(f"what was read again is refused, and the old tokens, certificate and limits stay in force: {fault}")
+                self.say(f"the files that were read again are refused, and the old tokens, certificate and limits stay in force: {fault}")
                 self.log.write("reload", outcome="refused", why=str(fault))
                 return
             self.change_to(self.config.differs_in(config), terms)

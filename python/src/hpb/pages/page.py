@@ -100,7 +100,7 @@ class Page:
             _marked(model, "p", "contact", class_="contact"),
             element("dl", *summary, class_="summary"),
             _marked(model, "p", "outlook", class_="outlook"),
-            element("noscript", element("p", "Without scripts this page doesn't follow: load it again to see what is new.")),
+            element("noscript", element("p", "Without scripts this page doesn't follow: load it again to see changes.")),
         )
 
     def _foot_of(self) -> Markup:
@@ -140,7 +140,7 @@ class Page:
 
     def _tree_of(self, model: Model) -> Markup:
         head = element("tr", *(element("th", text, scope="col", role="columnheader") for text in ("Node", *_NODE_COLUMNS)), role="row")
-        caption = element("caption", "What closed rounds come to. Where the last close changed a value, what it was before stands with it.")
+        caption = element("caption", "Results of closed rounds. If the last close changed a value, its earlier one stands with it.")
         table = element(
             "table",
             caption,

@@ -17,7 +17,7 @@ def stop(step: Step) -> None:
         return
     step.do(MustEnd())
     if step.front.phase < Phase.OPEN:
-        step.say("it was told to stop before clients were let in")
+        step.say("it was stopped before clients were let in")
         step.finish()
         return
     step.set(phase=Phase.ANSWERING, stopped_at=step.front.time)

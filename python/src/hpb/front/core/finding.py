@@ -174,5 +174,5 @@ def advice(is_older_file: bool) -> str:
         return ("an older copy of the file was taken back, or the record is that of another file. Name the right file and the right record, "
                 "or bring the file up to date by the record: docs/FRONT.md says how")
     return ("the record is an older one, or that of another file. Look for the right record, or else for its newest backup, and start "
-            "again with that. Only if the file was told commands by another way, as by `hpb run`, and no record has them, start with "
+            "again with that. Only if the file got commands by another way, as by `hpb run`, and no record has them, start with "
             f"--foreign: it notes their numbers and goes on, and {WHERE_THE_AUDIT_ENDS}")

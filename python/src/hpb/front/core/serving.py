@@ -97,7 +97,7 @@ def look_at_count(step: Step, shown: bytes) -> None:
     if not found or int(found[1]) < least:
         step.finish(f"the file has lost commands: {least} were accepted, and it shows {shown.decode('latin-1')!r}")
     elif int(found[1]) > most and step.front.phase >= Phase.STARTED:
-        step.finish(f"the file has {int(found[1])} commands, and the record explains {most} at most: it was told commands by "
+        step.finish(f"the file has {int(found[1])} commands, and the record explains {most} at most: it got commands by "
                     "another way. Keep copies of both, and see docs/FRONT.md, when something fails")
 
 
