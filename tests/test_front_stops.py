@@ -49,14 +49,14 @@ def test_a_program_that_says_nothing_is_given_up(front: Front) -> None:
     front.write_config(program=str(silent))
     front.begin()
     wait_until(lambda: front.child("sleep") != 0, 30, "a program that says nothing")
-    assert "told to stop before clients were let in" in ends_on_time(front, 0)
+    assert "stopped before clients were let in" in ends_on_time(front, 0)
 
 
 @pytest.mark.parametrize("call", ["flock", "fdatasync"])
 def test_a_record_whose_disk_hangs_at_the_start(front: Front, faults: Faults, call: str) -> None:
     front.begin(conditions=faults.of(FRONT, front.config, call, 1, 0))
     wait_until(lambda: faults.failed() == 1, 30, f"{call} hangs")
-    assert "told to stop before clients were let in" in ends_on_time(front, 0)
+    assert "stopped before clients were let in" in ends_on_time(front, 0)
 
 
 @pytest.mark.timeout(180)
