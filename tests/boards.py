@@ -46,10 +46,11 @@ class Site:
     token: str = ""
     context: ssl.SSLContext | None = None
     host: str | None = None
+    seconds: float = SECONDS
 
     def ask(self, path: str = "/", method: str = "GET", host: str | None = None, **more: str) -> http.client.HTTPResponse:
         """The answer to a request, whose content is still to be read."""
-        connection = http.client.HTTPConnection(ADDRESS, self.port, timeout=SECONDS)
+        connection = http.client.HTTPConnection(ADDRESS, self.port, timeout=self.seconds)
         connection.sock = self.connect()
         connection.putrequest(method, path, skip_host=True, skip_accept_encoding=True)
         known = {"Authorization": f"Basic {self.known()}"} if self.who is not None else {}
@@ -60,7 +61,7 @@ class Site:
 
     def connect(self) -> socket.socket:
         """A connection to it."""
-        connection = socket.create_connection((ADDRESS, self.port), SECONDS)
+        connection = socket.create_connection((ADDRESS, self.port), self.seconds)
         return self.context.wrap_socket(connection, server_hostname="localhost") if self.context else connection
 
     def known(self) -> str:

@@ -15,8 +15,8 @@ from typing import Any
 
 import pytest
 from boards import NODES, RULES, Site, Tool, Tools
-from conftest import Lack
 from harness.auctions import FIRST_ROUND
+from harness.fixtures import Lack
 from harness.markup import Page
 from harness.programs import Program
 from harness.serving import Serve, wait_until

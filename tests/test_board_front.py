@@ -126,7 +126,7 @@ def test_kills_of_server_page_and_front(front: Front) -> None:
     wait_until(lambda: ann.shows(count="3"), SECONDS, "the page is there again")
     kill_with_page(front)
     front.start()
-    assert [front.ask("desk", f"CLOSE {number}") for number in (1, 2)] == ["OK 4", "OK 5"]
+    assert [front.ask("desk", line) for line in ("CLOSE 1", "CLOSE 2 ENDING")] == ["OK 4", "OK 5"]
     wait_until(lambda: ann.shows(contact=OVER), SECONDS, "the end")
     kill_with_page(front)
 
@@ -204,7 +204,7 @@ def test_a_watch_of_a_front_goes_on_after_a_kill_of_it(over_tls: Front, tools: T
     assert [watch.line() for _ in range(2)] == FIRST_LINES
     over_tls.kill()
     over_tls.start()
-    accept(over_tls, "CLOSE 2")
+    accept(over_tls, "CLOSE 2 ENDING")
     written, said, status = watch.ended()
     assert (OVER in written, said, status) == (True, "", 0)
     assert "It connects again by itself.\n" in written

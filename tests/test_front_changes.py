@@ -150,3 +150,16 @@ def test_two_who_make_tokens_make_them_once(front: Front) -> None:
     ended = sorted((process.communicate(timeout=60)[1], process.returncode) for process in running)
     assert ended == [("", 0)] + [(f"front: tokens: {front.tokens}: File exists\n", 2)] * (AT_ONCE - 1)
     assert len(tokens(front, "list")) == len(front.names)
+
+
+@pytest.mark.parametrize("what", ["add", "revoke"])
+def test_a_link_to_the_tokens_stays_one(front: Front, what: str) -> None:
+    """The file to which it leads is changed. Before, a file took the link's place, and that one kept a revoked token."""
+    secret = front.folder / "secret"
+    secret.mkdir()
+    front.tokens.rename(secret / "tokens")
+    front.tokens.symlink_to("secret/tokens")
+    shown = tokens(front, what, "ann" if what == "add" else id_of(token_of("ann")))
+    assert os.readlink(front.tokens) == "secret/tokens" and os.listdir(secret) == ["tokens"]
+    assert (shown[0][1] in [id for _, id in tokens(front, "list")]) == (what == "add")
+    assert (token_of("ann") in (secret / "tokens").read_text()) == (what == "add")

@@ -4,18 +4,22 @@ from __future__ import annotations
 
 import os
 import re
+import signal
 import ssl
 import subprocess
 import time
-from contextlib import ExitStack
+from contextlib import ExitStack, suppress
 from pathlib import Path
 
 import pytest
-from fronts import SECONDS, Front, listening_socket, make_certificate, rest_of, token_of
+from fronts import ADDRESS, SECONDS, Front, listening_socket, make_certificate, rest_of, token_of
+from harness.auctions import definition
 from harness.conditions import Conditions
 from harness.fronts import run_tool, start_tool
 from harness.programs import Program
-from harness.serving import Client, free_port
+from harness.serving import Client, free_port, wait_until
+
+from hpb.front.tls import Records
 
 TOP = Path(__file__).resolve().parents[1]
 EMPTY = "ROUND 1 STAGE 1 OPEN REVENUE 0 COUNT 0"
@@ -118,6 +122,41 @@ def test_a_client_goes_on(over_tls: Front, cleanup: ExitStack) -> None:
     assert front.accepted() == [("BID x 1 a 100", "OK 1"), ("BID z 1 all 500", "OK 2")]
 
 
+def test_a_client_whose_token_goes_says_that_its_command_may_count(front: Front, cleanup: ExitStack) -> None:
+    """The server has it, and carries it out. Before, its answer seemed to be `ERR front token`, and the client ended with 0."""
+    front.start()
+    (front.folder / "token-ann").touch(mode=0o600)
+    (front.folder / "token-ann").write_text(f"{token_of('ann')}\n")
+    where = f"{ADDRESS}:{front.port}"
+    client = start_tool("client", where, "--plain", "--token", front.folder / "token-ann", input=subprocess.PIPE)
+    cleanup.callback(client.kill)
+    assert client.stdin and client.stdout
+    client.stdin.write(b"SHOW\n")
+    client.stdin.flush()
+    assert client.stdout.readline() == b"ROUND 1 STAGE 1 OPEN REVENUE 0 COUNT 0\n"
+    (front.folder / "definition").write_bytes(definition())
+    known = ["--plain", "--token", front.folder / "token-ann", "--definition", front.folder / "definition"]
+    watch = start_tool("watch", "--front", where, *known)
+    cleanup.callback(watch.kill)
+    assert watch.stdout and watch.stdout.readline() == b"Live.\n"
+    server = front.child("serve")
+    os.kill(server, signal.SIGSTOP)
+    client.stdin.write(b"BID x 1 a 100\n")
+    client.stdin.flush()
+    wait_until(lambda: b"BID x 1 a 100" in (front.folder / "R.asked").read_bytes(), SECONDS, "a command on its way")
+    front.write_tokens({name: token_of(name) if name != "ann" else "another-token-of-ann" for name in front.names})
+    front.signal(signal.SIGHUP)
+    front.wait_until_said("were read again")
+    written, said = client.communicate(timeout=SECONDS)
+    assert (written, client.returncode) == (b"", 1)
+    assert said == b"client: the token isn't known any more (ERR front token): if the last line is a command, it may be accepted or not\n"
+    _, said = watch.communicate(timeout=SECONDS)
+    assert (said, watch.returncode) == (b"watch: the token isn't known any more: ERR front token\n", 1)
+    os.kill(server, signal.SIGCONT)
+    assert front.stop().status == 0
+    assert front.accepted() == [("BID x 1 a 100", "OK 1")]
+
+
 def test_a_client_is_refused_at_once_if_there_is_no_tls(front: Front) -> None:
     make_certificate(front.folder)
     front.start()
@@ -127,7 +166,7 @@ def test_a_client_is_refused_at_once_if_there_is_no_tls(front: Front) -> None:
     assert of_client(b"SHOW\n", *ann[:3], "--plain") == (f"{EMPTY}\n", "", 0)
 
 
-@pytest.mark.parametrize("wrong", ["5000 --plain", "0", "70000", "localhost", "a:b:1", "5000 --token T --ca S --plain", ""])
+@pytest.mark.parametrize("wrong", ["5000 --plain", "0", "70000", "localhost", "a:b:1", "5000 --token T --ca S --plain", "", "a..b:6000", "a" * 70 + ":6000"])
 def test_words_that_are_wrong(wrong: str) -> None:
     assert of_client(b"SHOW\n", *wrong.split())[::2] == ("", 2)
 
@@ -208,3 +247,60 @@ def test_the_eight_commands_of_the_readme(program: Program, room: Path) -> None:
     told = [line.split(" RECORD")[0] for line in ran.stdout.splitlines() if line.startswith(("OK", "ERR", "STOPPED"))]
     assert (told, ran.returncode) == (["OK 1", "OK 2", "STOPPED 2"], 0), ran.stderr
     assert "<title>Auction, round 1, open</title>" in (room / "report.html").read_text()
+
+
+def typed(front: Front, cleanup: ExitStack) -> subprocess.Popen[bytes]:
+    """A client by hand, over TLS 1.3, once its handshake is done. A line `k` changes its keys, and any other is sent."""
+    words = ["openssl", "s_client", "-connect", f"localhost:{front.port}", "-CAfile", str(front.folder / "S"), "-tls1_3"]
+    client = subprocess.Popen(words, stdin=subprocess.PIPE, stdout=subprocess.PIPE, stderr=subprocess.DEVNULL)
+    cleanup.callback(client.communicate)
+    cleanup.callback(client.kill)
+    assert client.stdout
+    while not client.stdout.readline().startswith(b"Verify return code: 0"):
+        pass
+    return client
+
+
+def type_in(client: subprocess.Popen[bytes], line: bytes) -> None:
+    """It looks only at the first letter of all that has come."""
+    assert client.stdin
+    client.stdin.write(line)
+    client.stdin.flush()
+    time.sleep(0.05)
+
+
+def test_a_stranger_that_only_changes_keys_is_ended(over_tls: Front, cleanup: ExitStack) -> None:
+    """Each change costs the front as much as a line, and no limit of lines counts it. Before, one stranger could take all of its time."""
+    front = over_tls.start()
+    stranger, bidder = typed(front, cleanup), typed(front, cleanup)
+    for _ in range(20):
+        type_in(bidder, b"k\n")
+    type_in(bidder, f"TOKEN {token_of('ann')}\n".encode())
+    type_in(bidder, b"BID x 1 a 100\n")
+    assert bidder.stdout
+    while (line := bidder.stdout.readline()) != b"OK 1\n":
+        assert line
+    for _ in range(40):
+        with suppress(BrokenPipeError):
+            type_in(stranger, b"k\n")
+    assert stranger.wait(SECONDS) is not None
+    wait_until(lambda: bool(front.log_lines("ended")), SECONDS, "the end of a stranger")
+    assert [line["why"] for line in front.log_lines("ended")] == ["TLS: too many records with nothing to read"]
+    assert front.client("ann").ask("BID x 1 a 100") == "OK 1"
+
+
+def test_a_client_may_send_each_byte_in_a_record_of_its_own(over_tls: Front) -> None:
+    front = over_tls.start()
+    client = front.client("ann")
+    for byte in b"BID x 1 a 100\nWHO x\nSHOW\n":
+        client.socket.sendall(bytes([byte]))
+    assert [client.line() for _ in range(3)] == ["OK 1", "WHO x ELIGIBILITY 10 ACTIVITY 10 TICKET 1", "ROUND 1 STAGE 1 OPEN REVENUE 0 COUNT 1"]
+
+
+@pytest.mark.parametrize("pieces", [1, 2, 3, 7, 4_096])
+def test_records_are_counted_in_any_pieces(pieces: int) -> None:
+    """By hand: records of 0, 1, 300 and 16,640 bytes behind their headers, and half a header."""
+    data = b"".join(b"\x17\x03\x03" + length.to_bytes(2, "big") + bytes(length) for length in (0, 1, 300, 16_640, 0)) + b"\x17\x03\x03"
+    records = Records()
+    assert sum(records.count(data[at : at + pieces]) for at in range(0, len(data), pieces)) == 5
+    assert records.count(b"\0\1") == 0 and records.count(b"x") == 1

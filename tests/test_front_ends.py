@@ -52,7 +52,7 @@ def test_an_auction_that_is_over_looks_at_its_server_too(front: Front) -> None:
     front.limits = {"after_end_seconds": 0}
     behind(front, "exit 1")
     front.start()
-    assert Caller(front, "desk").ask("CLOSE 1") == "OK 1"
+    assert Caller(front, "desk").ask("CLOSE 1 ENDING") == "OK 1"
     assert front.ended(30).status == 1
 
 

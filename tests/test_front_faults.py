@@ -1,235 +1,285 @@
-"""Each call to the system by a front and its page, and each request for memory, fails once. Nothing hangs, nothing that was
-acknowledged is lost, and each failure is reported.
+"""Each call site of a front and of its page fails once with each error: calls to the system, and requests for memory. Nothing hangs, nothing
+that was acknowledged is lost, and each failure is reported.
 
-It is a sample of two minutes, with a seed that is printed; with `--long`, every one of them. The gate leaves both out.
+A site is known by the code that leads to it (`sites.h`), so it is the same one however often it is come to. Fronts and pages begin as copies
+of a process that has done its imports. At the start and at the end of a front each fault has a front of its own. While it serves, one front
+gets many faults, one after the other: the next one comes when all went on behind the last.
+
+In the gate it is a sample by a seed; the variable SEED chooses another one. With `--long` it is every site, in as many parts as there are processors.
 """
 
 from __future__ import annotations
 
 import errno
-import itertools
 import os
 import random
-import signal
-import subprocess
 import time
-from collections.abc import Callable, Iterable, Iterator
-from dataclasses import dataclass
+from collections.abc import Callable, Iterator, Sequence
 from pathlib import Path
 
 import pytest
-from faults import FRONT, MEMORY, PAGE, Faults
-from fronts import Front, StartsNot
-from harness.conditions import Conditions
-from harness.fronts import tool_words, with_package
-from harness.programs import Program, Ran
-from harness.serving import Client, Ended
+from faults import FRONT, MEMORY, PAGE, SOURCE, calls
+from fronts import Front, make_certificate
+from harness.conditions import NORMAL
+from harness.programs import Program
+from page_days import PageDay
+from sites import Nursery, Sweep
+from sweeping import Day, bred, contents, prepared, torn_front
 
-SAMPLE_SECONDS = int(os.environ.get("SAMPLE_SECONDS", 110))
-# How many seconds an answer may take, with a restart of front or server in between.
-ANSWER_SECONDS, CLIENT_SECONDS, PAUSE = 40, 10, 0.05
-LINES = [("ann", "BID x 1 a 100"), ("bob", "BID y 1 b 150"), ("desk", "CLOSE 1"), ("ann", "BID x 2 a 200")]
-NUMBERS = [f"OK {number}" for number in range(1, len(LINES) + 1)]
-QUESTION, ANSWER = "SHOW", "ROUND 2 STAGE 1 OPEN REVENUE 250 COUNT 4"
+SAMPLE_SECONDS = int(os.environ.get("SAMPLE_SECONDS", 75))
+# A sample is one of so many parts of all sites.
+SAMPLE_PARTS = int(os.environ.get("SAMPLE_PARTS", 200))
+# The seed of the gate is the same each time, so that a change alone makes it fail.
+GATE_SEED = 12
+LONG_PARTS = 4
+# A fault of a page behind a front is the first of such a part.
+PAGE_PARTS = 40
+# So many faults come to one front while it serves, before it is stopped and all it has kept is looked at.
+MOST_FAULTS = 25
+# After so many that went wrong a test ends.
+MOST_WRONG = 12
 
 NETWORK = (errno.ECONNRESET, errno.ENOMEM, errno.EINTR)
 DISK = (errno.EIO, errno.ENOSPC)
 NAMES = (errno.EACCES, errno.EMFILE)
 # The errors with which each call may fail.
 ERRORS: dict[str, tuple[int, ...]] = {
-    **dict.fromkeys(("read", "write", "close", "lseek", "lseek64", "pread64", "ftruncate64", "fsync", "fdatasync"), (*DISK, errno.EINTR)),
+    **dict.fromkeys(calls(), (errno.ENOMEM, errno.EINVAL)),
+    **dict.fromkeys(("read", "write", "close", "lseek", "lseek64", "pread64", "pwrite64", "ftruncate64", "fsync", "fdatasync"), (*DISK, errno.EINTR)),
     **dict.fromkeys(("recv", "send", "sendto", "shutdown", "connect", "getsockname", "getsockopt", "setsockopt"), NETWORK),
-    **dict.fromkeys(("open", "open64", "openat", "rename", "unlink"), (*NAMES, errno.EIO)),
+    **dict.fromkeys(("open", "open64", "openat", "rename", "unlink", "link", "execve", "opendir"), (*NAMES, errno.EIO)),
     **dict.fromkeys(("accept4",), (errno.EMFILE, errno.ECONNABORTED, errno.ENOMEM)),
     **dict.fromkeys(("fork", "pthread_create"), (errno.EAGAIN, errno.ENOMEM)),
     **dict.fromkeys(MEMORY, (errno.ENOMEM,)),
 }
-OTHERS = (errno.ENOMEM, errno.EINVAL)
 
 
-@dataclass(frozen=True)
-class Fault:
-    """A fault: the n-th call of a kind fails, in the front or in its page."""
+class Sweeper:
+    """Days with faults, in folders of their own. `wrong` are the faults behind which something went wrong."""
 
-    script: str
-    call: str
-    number: int
-    error: int
+    def __init__(
+        self, program: Program, room: Path, library: Path, module: str, part: int, parts: int, end: float, source: random.Random
+    ) -> None:
+        self.source = source
+        self.program, self.room, self.library, self.end, self.count = program, room, library, end, 0
+        only = int(os.environ.get("SITE", "0"), 16)
+        self.sweep = Sweep(room / "sites", ERRORS, part, parts, only)
+        words = ["--config", "C"] if module == FRONT else ["C", "10", "11"]
+        self.nursery = Nursery(library, module, words, self.sweep)
+        make_certificate(room)
+        self.day: Day | PageDay | None = None
+        self.wrong: list[str] = []
+        self.most_wrong = MOST_WRONG
+        # The faults before those of this `sweep`.
+        self.before = 0
 
-    def __str__(self) -> str:
-        return f"{self.script}: {self.call} number {self.number} fails by {errno.errorcode[self.error]}"
+    def faults(self) -> int:
+        """How many calls have failed."""
+        return self.before + self.sweep.count()
 
+    def has_time(self) -> bool:
+        return time.monotonic() < self.end and len(self.wrong) < self.most_wrong
 
-class Day:
-    """A front's day, during which a call fails: bids, a close, the page, a reload, and the end."""
+    def folder(self) -> Path:
+        self.count += 1
+        return self.room / str(self.count)
 
-    def __init__(self, front: Front, conditions: Conditions) -> None:
-        self.front = front
+    def new_day(self, is_full: bool) -> Day:
+        """A front of its own, which isn't started."""
+        self.drop()
+        self.day = made = Day(bred(self.program, self.folder(), self.nursery, is_full), self.sweep)
+        return made
+
+    def drop(self) -> None:
+        """Ends the day, and leaves nothing of it."""
+        if self.day:
+            self.day.kill()
+        self.day = None
+
+    def look(self, work: Callable[[], None], faults: Sequence[str] = ()) -> bool:
+        """Whether all went well. If not, it is noted with the faults that led to it."""
         try:
-            front.start(conditions=conditions)
-        except StartsNot as ended:
-            self.look_at_end(ended.ran)
-            front.start()
+            work()
+        except Exception as wrong:
+            self.sweep.disarm()
+            said = self.day.said() if self.day else ""
+            print(f"{wrong!r}\nbehind {self.sweep.last()}\n", flush=True)
+            self.wrong.append(f"{wrong!r}\nbehind {self.sweep.last()}\nit said {said!r}\nfaults before that: {list(faults)}")
+            self.drop()
+            return False
+        return True
 
-    def look_at_end(self, ran: Ran) -> None:
-        """If a front ends by itself, it has to say why."""
-        assert ran.status in (1, 2) and ran.errors.strip(), f"it ended in silence: {ran}"
+    # Starts.
 
-    def go_on(self) -> None:
-        """Starts the front again if it has ended."""
-        if not self.front.is_running():
-            self.look_at_end(self.front.ended())
-            self.front.start()
+    def begin(self, made: Callable[[], Day]) -> None:
+        """Faults while a front starts. If it ended and changed no file, the folder is as good as new; else a day follows."""
+        has_failed = True
+        while has_failed and self.has_time():
+            day = made()
+            before = contents(day.front.folder)
 
-    def ask(self, name: str, line: str) -> str:
-        end = time.monotonic() + ANSWER_SECONDS
-        client: Client | None = None
-        while time.monotonic() < end:
-            self.go_on()
-            try:
-                client = self.front.client(name, seconds=CLIENT_SECONDS)
-                answer = client.ask(line)
-                if not answer.startswith("ERR front"):
-                    return answer
-            except (OSError, Ended):
-                time.sleep(PAUSE)
-            finally:
-                if client:
-                    client.close()
-        raise AssertionError(f"no answer to {line!r}: {self.front.words_said()}")
+            def work() -> None:
+                nonlocal has_failed
+                is_new = True
+                while is_new and has_failed and self.has_time():
+                    has_failed = day.start_with_fault()
+                    is_new = not day.front.is_running() and contents(day.front.folder) == before
+                if not is_new:
+                    day.pass_by()
 
-    def see_page(self) -> None:
-        """Waits until the page comes. The page may be restarted meanwhile."""
-        end = time.monotonic() + ANSWER_SECONDS
-        while time.monotonic() < end:
-            self.go_on()
-            try:
-                if self.front.page("ann", seconds=CLIENT_SECONDS) == 200:
-                    return
-            except (OSError, ValueError):
-                pass
-            time.sleep(PAUSE)
-        raise AssertionError(f"no page: {self.front.words_said()}")
+            self.look(work)
 
-    def pass_by(self) -> None:
-        """The whole day, and its end."""
-        assert [self.ask(*line) for line in LINES] == NUMBERS
-        assert self.ask("public", QUESTION) == ANSWER
-        self.see_page()
-        self.front.signal(signal.SIGHUP)
-        assert [self.ask(*line) for line in LINES[-1:]] == NUMBERS[-1:]
-        if self.front.is_running():
-            ran = self.front.stop()
-            assert ran.status == 0 or ran.errors.strip(), f"it ended in silence: {ran}"
+    # While it serves.
 
-    def look_at_rest(self) -> None:
-        """Checks that the file and the record have the answered commands, and nothing else."""
-        words = [*tool_words("replay"), self.front.record, "--file", self.front.file, "--program", self.front.program.path]
-        ran = subprocess.run(list(map(str, words)), capture_output=True, text=True, timeout=60, env=with_package(os.environ))
-        assert ran.returncode == 0, ran.stderr
-        assert self.front.program.count(self.front.file) == len(LINES)
+    def serve(self, is_full: bool) -> None:
+        """Faults while a front serves."""
+        is_done = False
+        while not is_done and self.has_time():
+            day, faults = self.new_day(is_full), list[str]()
+
+            def work() -> None:
+                nonlocal is_done
+                day.start()
+                is_done = self.take_steps(day, faults)
+                day.pass_by()
+
+            self.look(work, faults)
+
+    def take_steps(self, day: Day, faults: list[str]) -> bool:
+        """Whether nothing failed in any step, each of which was tried until nothing failed in it."""
+        is_done = True
+        for step in day.steps():
+            while self.has_time():
+                self.sweep.arm()
+                step()
+                if not self.sweep.disarm():
+                    break
+                is_done = False
+                faults.append(self.sweep.last().split(";")[0])
+                if len(faults) == MOST_FAULTS:
+                    return False
+        return is_done
+
+    # The end.
+
+    def stop(self, is_full: bool) -> None:
+        """Faults while a front ends."""
+        has_failed = True
+        while has_failed and self.has_time():
+            day = self.new_day(is_full)
+
+            def work() -> None:
+                nonlocal has_failed
+                day.start()
+                day.hold_round()
+                self.sweep.arm()
+                day.end()
+                has_failed = self.sweep.disarm()
+                day.look_at_rest()
+
+            self.look(work)
+
+    # The page.
+
+    def page(self) -> None:
+        """Faults of a page: while it starts, while it is looked at, and when its front is gone. A phase is done once nothing fails in it."""
+        phases: list[Callable[[PageDay], Iterator[bool]]] = [PageDay.begin_with_faults, PageDay.serve_with_faults, PageDay.end_with_faults]
+        for phase in phases:
+            is_done = False
+            while not is_done and self.has_time():
+                self.drop()
+                self.day = day = PageDay(self.nursery, self.sweep, self.program, self.folder())
+
+                def work() -> None:
+                    nonlocal is_done
+                    before = self.sweep.count()
+                    is_done = all(self.has_time() for _ in phase(day)) and self.sweep.count() == before
+
+                self.look(work)
+
+    def page_of_front(self, most: int) -> None:
+        """Faults of a page that a front has started: the front ends, or starts it again."""
+        for _ in range(most):
+            if not self.has_time():
+                return
+            self.drop()
+            folder = self.folder()
+            folder.mkdir()
+            self.before += self.sweep.count()
+            self.sweep = Sweep(self.room / "page-sites", ERRORS, self.source.randrange(PAGE_PARTS), PAGE_PARTS)
+            day = self.day = Day(prepared(Front(self.program, folder, has_board=True), is_full=True), self.sweep)
+            conditions = NORMAL.with_library(self.library, FAULT_IN=PAGE, FAULT_FROM="", FAULT_SITES=str(self.sweep.path), PYTHONMALLOC="malloc")
+
+            def work() -> None:
+                day.start_with_fault(conditions)
+                day.pass_by()
+
+            self.look(work)
+
+    def finish(self) -> None:
+        """Ends everything, and reports."""
+        self.drop()
+        self.nursery.end()
+
+
+Sweepers = Callable[..., Sweeper]
 
 
 @pytest.fixture
-def tries(program: Program, room: Path, library: Callable[[Path], Path]) -> Iterator[Tries]:
-    made = Tries(program, room, Faults.built(library, room))
-    yield made
-    made.end()
+def sweeper(program: Program, memory: Path, library: Callable[[Path], Path]) -> Iterator[Sweepers]:
+    """Makes a sweeper: `sweeper(FRONT, part, parts, seconds, source)`."""
+    made: list[Sweeper] = []
+
+    def makes(module: str, part: int, parts: int, seconds: float, source: random.Random) -> Sweeper:
+        made.append(Sweeper(program, memory, library(SOURCE), module, part, parts, time.monotonic() + seconds, source))
+        return made[0]
+
+    yield makes
+    for one in made:
+        one.finish()
 
 
-class Tries:
-    """Days with one fault each, every one in a folder of its own."""
-
-    def __init__(self, program: Program, room: Path, faults: Faults) -> None:
-        self.program, self.room, self.faults, self.count = program, room, faults, 0
-        self.front: Front | None = None
-
-    def new_front(self) -> Front:
-        self.count += 1
-        folder = self.room / str(self.count)
-        folder.mkdir()
-        self.front = Front(self.program, folder, has_board=True)
-        assert self.program.format(self.front.file).status == 0
-        return self.front
-
-    def counts(self, script: str) -> dict[str, int]:
-        """How often each call is made in a day without a fault."""
-        front = self.new_front()
-        conditions = self.faults.of(script, begun_at(script, front))
-        day = Day(front, conditions)
-        day.pass_by()
-        return self.faults.counts()
-
-    def tried(self, fault: Fault) -> bool:
-        """A day with this fault. Returns whether the call failed; if anything then went wrong, AssertionError is raised."""
-        front = self.new_front()
-        try:
-            day = Day(front, self.faults.of(fault.script, begun_at(fault.script, front), fault.call, fault.number, fault.error))
-            day.pass_by()
-            day.look_at_rest()
-        except Exception as wrong:
-            raise AssertionError(f"{fault}: {wrong!r}; it said {front.words_said()!r}") from wrong
-        finally:
-            front.kill()
-        return self.faults.failed() > 0
-
-    def end(self) -> None:
-        if self.front:
-            self.front.kill()
+def phases_of(sweeper: Sweeper, module: str, most: int) -> list[Callable[[], None]]:
+    """The phases of a front or a page. Most sites of a front need no page and no TLS, so those are tried first that do without. Most sites of
+    a page need no front: `most` are tried with one.
+    """
+    if module == PAGE:
+        return [sweeper.page, lambda: sweeper.page_of_front(most)]
+    return [
+        lambda: sweeper.begin(lambda: sweeper.new_day(is_full=False)),
+        lambda: sweeper.begin(lambda: torn_front(sweeper.new_day(is_full=False))),
+        lambda: sweeper.serve(is_full=False),
+        lambda: sweeper.stop(is_full=False),
+        lambda: sweeper.begin(lambda: sweeper.new_day(is_full=True)),
+        lambda: sweeper.serve(is_full=True),
+        lambda: sweeper.stop(is_full=True),
+    ]
 
 
-def begun_at(script: str, front: Front) -> Path:
-    """The file with whose opening the counting of calls begins: the page opens no configuration."""
-    return front.config if script == FRONT else front.file
+def go_through(sweeper: Sweeper, phases: list[Callable[[], None]]) -> None:
+    """All phases. AssertionError has all that went wrong in them."""
+    for phase in phases:
+        began = time.monotonic()
+        phase()
+        print(f"{sweeper.faults()} faults after {time.monotonic() - began:.0f} s more, {len(sweeper.wrong)} of them wrong", flush=True)
+    assert not sweeper.wrong, f"{len(sweeper.wrong)} went wrong:\n\n" + "\n\n".join(sweeper.wrong)
 
 
-def all_faults(tries: Tries) -> list[Fault]:
-    faults = []
-    for script in (FRONT, PAGE):
-        for call, count in tries.counts(script).items():
-            for error in ERRORS.get(call, OTHERS):
-                faults += [Fault(script, call, number, error) for number in range(1, count + 1)]
-    return faults
-
-
-def sample(faults: list[Fault], seed: int) -> Iterator[Fault]:
-    """Takes a call and a request for memory in turn. All kinds of calls come equally often, however often the program makes them."""
-    source = random.Random(seed)
-    requests = [fault for fault in faults if fault.call in MEMORY]
-    kinds: dict[tuple[str, str, int], list[Fault]] = {}
-    for fault in faults:
-        if fault.call not in MEMORY:
-            kinds.setdefault((fault.script, fault.call, fault.error), []).append(fault)
-    while True:
-        for kind in source.sample(sorted(kinds), len(kinds)):
-            yield source.choice(kinds[kind])
-            yield source.choice(requests)
-
-
-@pytest.mark.timeout(SAMPLE_SECONDS + 240)
-def test_a_sample_of_all_faults(tries: Tries) -> None:
-    seed = int(os.environ.get("SEED", time.time_ns() % 1_000_000))
+@pytest.mark.timeout(SAMPLE_SECONDS + 180)
+@pytest.mark.parametrize("module", [FRONT, PAGE])
+def test_a_sample_of_all_faults(sweeper: Sweepers, module: str) -> None:
+    seed = int(os.environ.get("SEED", GATE_SEED))
     print(f"SEED={seed}")
-    end = time.monotonic() + SAMPLE_SECONDS
-    faults = itertools.takewhile(lambda _: time.monotonic() < end, sample(all_faults(tries), seed))
-    assert tried(tries, faults) > 0
+    source = random.Random(seed)
+    made = sweeper(module, source.randrange(SAMPLE_PARTS), SAMPLE_PARTS, SAMPLE_SECONDS, source)
+    go_through(made, phases_of(made, module, most=2))
+    assert made.faults() > 0
 
 
 @pytest.mark.long
 @pytest.mark.timeout(0)
-def test_all_faults(tries: Tries) -> None:
-    faults = all_faults(tries)
-    assert tried(tries, faults) > len(faults) // 2
-
-
-def tried(tries: Tries, faults: Iterable[Fault]) -> int:
-    """In how many days a call failed. If anything went wrong, AssertionError is raised, with each fault that led to it."""
-    hit, wrong = 0, []
-    for fault in faults:
-        try:
-            hit += tries.tried(fault)
-        except AssertionError as found:
-            wrong.append(str(found))
-    print(f"{tries.count} days, in {hit} of which a call failed")
-    assert not wrong, "\n".join(wrong)
-    return hit
+@pytest.mark.parametrize("part", range(LONG_PARTS))
+@pytest.mark.parametrize("module", [FRONT, PAGE])
+def test_all_faults(sweeper: Sweepers, module: str, part: int) -> None:
+    made = sweeper(module, part, LONG_PARTS, float("inf"), random.Random(part))
+    go_through(made, phases_of(made, module, most=25))

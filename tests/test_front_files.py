@@ -161,6 +161,24 @@ def test_a_log_that_was_moved_away_begins_anew(tmp_path: Path) -> None:
     assert (tmp_path / "L").read_bytes() == (tmp_path / "kept").read_bytes() == LINE
 
 
+@pytest.mark.parametrize("how", ["moved", "removed", "replaced"])
+def test_a_log_that_another_program_takes_away_begins_anew_with_the_next_line(how: str, tmp_path: Path) -> None:
+    """As logrotate does, which then removes it. Before, all that followed went into the file that was gone."""
+    path, lines = tmp_path / "L", [LINE.replace(b"page", b"%04d" % number) for number in range(3)]
+    log = Rotated(str(path), 1_000_000, 3)
+    log.write(lines[0])
+    if how == "removed":
+        path.unlink()
+    else:
+        path.rename(tmp_path / "kept")
+    if how == "replaced":
+        path.touch(mode=0o600)
+    log.write(lines[1])
+    log.write(lines[2])
+    assert path.read_bytes() == lines[1] + lines[2]
+    assert how == "removed" or (tmp_path / "kept").read_bytes() == lines[0]
+
+
 @pytest.mark.parametrize("data", [b"an auction", b"127.0.0.1 localhost\n", b"\0\0x"])
 def test_another_file_isnt_taken_for_a_log(data: bytes, tmp_path: Path) -> None:
     (tmp_path / "L").write_bytes(data)
@@ -232,6 +250,24 @@ def test_a_line_that_standard_error_took_in_part_is_ended(monkeypatch: pytest.Mo
 
 
 # With a front.
+
+
+def test_a_file_with_bids_that_every_user_may_read_is_named(front: Front) -> None:
+    """As a copy may be that was made without `cp -p`. A group may have been let in on purpose, and says nothing."""
+    assert front.start().stop().errors.count("warning") == 0
+    for name in ("F", "R", "R.asked", "R.log"):
+        (front.folder / name).chmod(0o640)
+    assert front.start().stop().errors.count("warning") == 0
+    for name in ("F", "R.asked", "R.log"):
+        (front.folder / name).chmod(0o644)
+    front.tokens.chmod(0o600)
+    front.start()
+    front.wait_until_said("R.log, and so")
+    said = [line for line in front.stop().errors.splitlines() if "warning" in line]
+    assert said == [
+        f"front: warning: every user may read {front.folder / name}, and so the bids of the open round: `chmod 600` it"
+        for name in ("F", "R.asked", "R.log")
+    ]
 
 
 def test_a_log_that_would_be_moved_over_the_auction_is_refused(front: Front) -> None:

@@ -5,11 +5,14 @@ from __future__ import annotations
 import fcntl
 import json
 import os
+import resource
 import signal
+import socket
 import sys
 import threading
 import time
 from collections.abc import Callable
+from contextlib import ExitStack
 from pathlib import Path
 
 import pytest
@@ -46,7 +49,7 @@ def test_the_end_of_an_auction_ends_its_front(front: Front) -> None:
     front.configure({"after_end_seconds": 1}).start()
     assert front.ask("ann", "BID x 1 a 100") == "OK 1"
     desk = Caller(front, "desk")
-    assert [desk.ask(line) for line in ("CLOSE 1", "CLOSE 2")] == ["OK 2", "OK 3"]
+    assert [desk.ask(line) for line in ("CLOSE 1", "CLOSE 2 ENDING")] == ["OK 2", "OK 3"]
     assert desk.ask("SHOW") == "ROUND 2 STAGE 1 CLOSED REVENUE 100 COUNT 3"
     ran = front.ended()
     lines = [line.split(" RECORD ") for line in ran.lines()]
@@ -358,4 +361,41 @@ def test_standard_output_that_nobody_reads_keeps_nobody_from_bidding(front: Fron
         os.close(output)
     lines = [("ann", "BID x 1 a 100"), ("desk", "CLOSE 1"), ("ann", "BID x 2 a 110"), ("desk", "CLOSE 2")]
     assert [front.ask(name, line) for name, line in lines] == ["OK 1", "OK 2", "OK 3", "OK 4"]
+    assert front.stop().status == 0
+
+
+def test_standard_output_that_nobody_reads_to_the_end_is_told(front: Front) -> None:
+    """The lines of two closes and `STOPPED` are missing. Before, the front ended with 0."""
+    front.start()
+    assert front.process
+    output = os.open(f"/proc/{front.process.pid}/fd/1", os.O_WRONLY | os.O_NONBLOCK)
+    try:
+        while True:
+            os.write(output, b"x" * 65_536)
+    except BlockingIOError:
+        os.close(output)
+    lines = [("ann", "BID x 1 a 100"), ("desk", "CLOSE 1"), ("ann", "BID x 2 a 110"), ("desk", "CLOSE 2")]
+    assert [front.ask(name, line) for name, line in lines] == ["OK 1", "OK 2", "OK 3", "OK 4"]
+    front.signal(signal.SIGTERM)
+    assert front.process.wait(SECONDS) == 1
+    assert "front: nobody reads standard output: its last 3 lines are missing\n" in front.words_said()
+    assert b"STOPPED" not in front.process.communicate()[0]
+
+
+def test_connections_leave_the_front_the_descriptors_that_it_needs(front: Front, cleanup: ExitStack) -> None:
+    """If the system gives fewer than the limits allow, strangers can't take those of server, record and tokens. Before, they ended the front
+    together with one kill of the server.
+    """
+    front.start(conditions=Conditions(limits={resource.RLIMIT_NOFILE: 80}))
+    front.wait_until_said("there may be 80 (ulimit -n)")
+    caller = Caller(front, "ann")
+    assert caller.ask("BID x 1 a 100") == "OK 1"
+    for _ in range(100):
+        cleanup.enter_context(socket.create_connection((ADDRESS, front.port), SECONDS))
+    assert caller.ask("SHOW").endswith(" COUNT 1")
+    os.kill(front.child("serve"), signal.SIGKILL)
+    assert caller.ask("SHOW").endswith(" COUNT 1")
+    front.signal(signal.SIGHUP)
+    front.wait_until_said("tokens, certificate and limits were read again")
+    assert "can't be taken" not in front.words_said()
     assert front.stop().status == 0

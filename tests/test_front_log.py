@@ -7,16 +7,21 @@ import os
 import signal
 import socket
 import ssl
+import threading
 import time
 from pathlib import Path
 
+import pytest
 from fronts import ADDRESS, Caller, Front, make_certificate, token_of
+from harness.conditions import Conditions
 from harness.serving import wait_until
 from test_front_tokens import id_of
 
 from hpb.front.log import Log, Rotated
 
 SECRET = "a-token-that-nobody-has-0123"
+# Nanoseconds that the signature of a handshake takes at least.
+LEAST_HANDSHAKE = 200_000
 
 
 def peer_of(connection: socket.socket) -> str:
@@ -74,6 +79,20 @@ def test_a_token_in_a_line_or_a_path_isnt_written(room: Path) -> None:
     log.end(5)
     text = (room / "log").read_text()
     assert token not in text and kept in text and text.count("\n") == 9
+
+
+def test_a_token_that_looks_like_a_name_or_a_number_isnt_written(front: Front) -> None:
+    """If a name sends it in the wrong place. Names and numbers of the same length are written."""
+    secrets = {"ann": "word_of_16_chars", "bob": "12345678901234567890"}
+    front.write_tokens({name: secrets.get(name, token_of(name)) for name in front.names})
+    front.start()
+    client = front.client(token=secrets["ann"])
+    asked = [*secrets.values(), *(f"NODE {secret}" for secret in secrets.values()), "NODE bay_of_the_state", "CLOSE 18446744073709551615"]
+    for line in asked:
+        assert client.ask(line).startswith("ERR ")
+    front.stop()
+    assert [line["line"] for line in front.log_lines("answered")] == ["..", "..", "NODE ..", "NODE ..", *asked[-2:]]
+    assert not any(secret in front.log.read_text() for secret in secrets.values())
 
 
 def test_what_is_asked_for_at_the_page_stands_in_the_log(front: Front) -> None:
@@ -176,6 +195,59 @@ def test_an_address_that_begins_tls_too_often_is_refused(front: Front) -> None:
         assert known.recv(100) == b"WELCOME ann\n"
     time.sleep(1)
     assert front.client("ann").ask("SHOW").startswith("ROUND 1 ")
+
+
+def shake(front: Front, address: str) -> None:
+    """A stranger of this address begins TLS, and goes once it is there."""
+    assert front.context
+    taken = socket.create_connection((ADDRESS, front.port), timeout=20, source_address=(address, 0))
+    with front.context.wrap_socket(taken, server_hostname="localhost"):
+        pass
+
+
+def times_by_nice(process: int) -> dict[int, int]:
+    """The nanoseconds that threads of a process have run, by how much they give way."""
+    times: dict[int, int] = {}
+    for task in Path(f"/proc/{process}/task").iterdir():
+        nice = int((task / "stat").read_text().rsplit(")", 1)[1].split()[16])
+        times[nice] = times.get(nice, 0) + int((task / "schedstat").read_text().split()[0])
+    return times
+
+
+@pytest.mark.as_root
+def test_handshakes_are_done_by_a_thread_that_gives_way(front: Front) -> None:
+    """A handshake costs the front a signature. The loop that serves bidders makes none."""
+    front.context = make_certificate(front.folder)
+    front.write_config(certificate="S", key="K")
+    front.start(conditions=Conditions(last=lambda: os.setpriority(os.PRIO_PROCESS, 0, 0)))
+    assert front.process
+    wait_until(lambda: len(times_by_nice(front.process.pid if front.process else 0)) == 2, 20, "a thread that gives way")
+    before = times_by_nice(front.process.pid)
+    assert min(before) == 0
+    for _ in range(40):
+        shake(front, ADDRESS)
+    after = times_by_nice(front.process.pid)
+    spent = {nice: after[nice] - before[nice] for nice in before}
+    assert spent[max(spent)] > 40 * LEAST_HANDSHAKE, spent
+
+
+def test_of_all_addresses_so_many_handshakes_are_done_in_a_second(front: Front) -> None:
+    """Meanwhile a bidder who is in is answered."""
+    front.context = make_certificate(front.folder)
+    front.limits = {"all_handshakes_per_second": 4}
+    front.write_config(certificate="S", key="K")
+    front.start()
+    bidder = front.client("ann", seconds=20)
+    strangers = [threading.Thread(target=shake, args=(front, f"127.0.1.{number}")) for number in range(1, 13)]
+    began = time.monotonic()
+    for stranger in strangers:
+        stranger.start()
+    asked = 0
+    while any(stranger.is_alive() for stranger in strangers):
+        assert bidder.ask("SHOW").startswith("ROUND 1 ")
+        asked += 1
+        time.sleep(0.05)
+    assert time.monotonic() - began > 2 and asked >= 10
 
 
 def test_what_is_no_tls_is_logged(front: Front) -> None:

@@ -28,6 +28,8 @@ RESTARTS, MOST_SESSIONS = 100, 32
 # For how many seconds a front is stopped behind every tenth restart.
 STOPPED, STOPPED_EACH = 0.5, 10
 BID = b"BID y 1 b 150\n"
+# In a user namespace whose limit is 0, no network can be made.
+NO_NETWORK = ("unshare", "-Ur", "sh", "-c", 'echo 0 > /proc/sys/user/max_net_namespaces && exec "$@"', "sh")
 
 # A script for the other user. It reads the listening ports from /proc, for each process that it may look at, connects to each of
 # them, and bids. If a port answers like the server, it writes the port and the answer.
@@ -154,9 +156,7 @@ def test_a_front_of_another_user_has_a_network_of_its_own(front: Front, nobody: 
 
 @pytest.mark.as_root
 def test_a_system_that_gives_no_network_is_told(front: Front) -> None:
-    """In a user namespace whose limit is 0, no network can be made."""
-    limited = ["unshare", "-Ur", "sh", "-c", 'echo 0 > /proc/sys/user/max_net_namespaces && exec "$@"', "sh"]
-    ran = subprocess.run([*limited, *front.words()], capture_output=True, text=True, timeout=60)
+    ran = subprocess.run([*NO_NETWORK, *front.words()], capture_output=True, text=True, timeout=60)
     assert (ran.returncode, ran.stdout) == (1, "")
     assert "gives the front no network of its own" in ran.stderr and "shared_network = true" in ran.stderr
 
@@ -196,24 +196,56 @@ def test_sockets_that_are_handed_in_are_taken(front: Front) -> None:
         assert front.stop().status == 0
 
 
+def begin_in(front: Front, network: Network, given: socket.socket, *before: str) -> subprocess.Popen[bytes]:
+    """Starts a front in this network, by the words `before`, and hands it a socket that listens elsewhere."""
+    front.write_config(listen=f"{ADDRESS}:{given.getsockname()[1]}")
+    script = 'exec 3<&"$0"; LISTEN_PID=$$ LISTEN_FDS=1 exec "$@"'
+    words = [*before, "bash", "-c", script, str(given.fileno()), *front.words()]
+    front.process = subprocess.Popen(
+        words, stdout=subprocess.PIPE, stderr=front.said, pass_fds=[given.fileno()], preexec_fn=network.enter
+    )
+    return front.process
+
+
 @pytest.mark.as_root
 def test_a_network_that_the_front_is_in_already_is_its_own(front: Front, network: Network) -> None:
-    """With systemd's PrivateNetwork= the sockets are the machine's and the process is in another network: it needs no right to unshare."""
+    """With systemd's PrivateNetwork= the sockets are the machine's and the process is in another network. It stays there if the system
+    gives it no other one."""
     with listening_socket() as given:
-        port = given.getsockname()[1]
-        front.write_config(listen=f"{ADDRESS}:{port}")
-        script = 'exec 3<&"$0"; LISTEN_PID=$$ LISTEN_FDS=1 exec setpriv --bounding-set=-sys_admin --inh-caps=-sys_admin "$@"'
-        words = ["bash", "-c", script, str(given.fileno()), *front.words()]
-        front.process = subprocess.Popen(
-            words, stdout=subprocess.PIPE, stderr=front.said, pass_fds=[given.fileno()], preexec_fn=network.enter
-        )
-        assert front.process.stdout and front.process.stdout.readline() == f"LISTENING {ADDRESS} {port}\n".encode()
+        process = begin_in(front, network, given, *NO_NETWORK)
+        front.port = given.getsockname()[1]
+        assert process.stdout and process.stdout.readline() == f"LISTENING {ADDRESS} {front.port}\n".encode()
         server = front.child("serve")
         with network.inside():
             assert os.readlink(f"/proc/{server}/ns/net") == os.readlink("/proc/thread-self/ns/net")
-        front.port = port
         assert Caller(front, "ann").ask("BID x 1 a 100") == "OK 1"
         assert front.stop().status == 0
+
+
+@pytest.mark.as_root
+def test_sockets_of_elsewhere_make_no_network_the_fronts_own(front: Front, network: Network) -> None:
+    """Other processes may be in that network. Before, the server listened there, and each of them reached it."""
+    with listening_socket() as given:
+        process = begin_in(front, network, given)
+        front.port = given.getsockname()[1]
+        assert process.stdout and process.stdout.readline() == f"LISTENING {ADDRESS} {front.port}\n".encode()
+        server = front.child("serve")
+        with network.inside():
+            assert os.readlink(f"/proc/{server}/ns/net") != os.readlink("/proc/thread-self/ns/net")
+        assert Caller(front, "ann").ask("BID x 1 a 100") == "OK 1"
+        assert front.stop().status == 0
+
+
+@pytest.mark.as_root
+def test_a_network_with_an_interface_is_nobodys_own(front: Front, network: Network) -> None:
+    """Such as the machine's, beside sockets that somebody made elsewhere. If the system gives no other, the front doesn't start."""
+    with network.inside():
+        subprocess.run(["sh", "-c", "ip link add v0 type veth peer name v1 && ip link set v0 up"], check=True, timeout=60)
+    with listening_socket() as given:
+        begin_in(front, network, given, *NO_NETWORK)
+        ran = front.ended(60)
+    assert (ran.status, ran.output) == (1, "")
+    assert "gives the front no network of its own" in ran.errors and "shared_network = true" in ran.errors
 
 
 @pytest.mark.parametrize("host", [ADDRESS, "0.0.0.0", "::"])

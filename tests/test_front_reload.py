@@ -9,6 +9,7 @@ import time
 from collections.abc import Iterator
 from contextlib import suppress
 from pathlib import Path
+from unittest import mock
 
 import pytest
 from faults import FRONT, PAGE
@@ -17,6 +18,9 @@ from harness.conditions import Conditions
 from harness.programs import Program
 from harness.serving import wait_until
 
+from hpb.front import terms
+from hpb.front.limits import DEFAULTS
+from hpb.front.tokens import Tokens
 from hpb.front.watch import Watch
 
 READ_AGAIN = "tokens, certificate and limits were read again"
@@ -213,3 +217,66 @@ def test_a_signal_before_there_is_a_loop_is_kept() -> None:
     watch.attach(loop, lambda: told.append("stop"), lambda: told.append("reload"))
     loop.close()
     assert told == ["reload"]
+
+
+@pytest.mark.parametrize("number", ["1" + "0" * 5_000, "0x" + "f" * 5_000], ids=["decimal", "hexadecimal"])
+@pytest.mark.parametrize("field", ["", "lines_waiting"], ids=["no field of it", "a limit"])
+def test_a_number_of_too_many_digits_changes_nothing(front: Front, field: str, number: str) -> None:
+    """Python reads or writes no number with so many. A front that goes on at SIGHUP, and names it at its start."""
+    front.start()
+    front.write_config()
+    front.config.write_text(front.config.read_text().replace("[limits]", f"[limits]\n{field or 'colour'} = {number}"))
+    front.signal(signal.SIGHUP)
+    front.wait_until_said("the old tokens, certificate and limits stay in force")
+    assert front.client("ann").ask("BID x 1 a 100") == "OK 1"
+    assert front.stop().status == 0
+    ran = front.run()
+    assert (ran.output, ran.status) == ("", 2) and "a fault of the front" not in ran.errors
+
+
+def test_a_fault_that_nobody_thought_of_changes_nothing_at_a_signal() -> None:
+    """And its text isn't said: it could have a token."""
+    said: list[str] = []
+
+    def fails(path: str, in_force: object) -> None:
+        raise KeyError(NEW)
+
+    async def reload() -> None:
+        with mock.patch.object(terms, "read_terms", fails):
+            config = mock.Mock(path="C")
+            reloading = terms.Reload(config, terms.Terms(DEFAULTS, Tokens("", ()), None), lambda _: None, said.append, mock.Mock())
+            await reloading.change()
+
+    asyncio.run(reload())
+    assert [line.rpartition(": ")[2] for line in said] == ["KeyError"]
+
+
+def test_how_long_questions_are_answered_after_the_end_follows_a_signal(front: Front) -> None:
+    """Longer, and then no longer. Before, the limit held that was in force when the auction ended."""
+    front.limits = {"after_end_seconds": 4}
+    front.write_config()
+    front.start()
+    client = front.client("desk")
+    assert client.ask("CLOSE 1 ENDING") == "OK 1"
+    for seconds in (3_600, 0):
+        front.limits = {"after_end_seconds": seconds}
+        front.write_config()
+        front.signal(signal.SIGHUP)
+        if seconds:
+            front.wait_until_said(READ_AGAIN)
+            time.sleep(6)
+            assert client.ask("SHOW") == "ROUND 1 STAGE 1 CLOSED REVENUE 0 COUNT 1"
+    assert front.ended().status == 0
+
+
+def test_a_token_of_a_name_that_was_added_says_when_names_count(front: Front) -> None:
+    """The configuration has the name, so it isn't enough to say that it hasn't."""
+    front.start()
+    front.names = {**front.names, "eve": "observer"}
+    front.write_config()
+    front.write_tokens({name: token_of(name) for name in front.names})
+    front.signal(signal.SIGHUP)
+    front.wait_until_said("The names are those with which the front was started: other names count from the next start on\n")
+    assert front.stop().status == 0
+    front.start()
+    assert front.client("eve").ask("SHOW").startswith("ROUND 1 ")

@@ -136,6 +136,36 @@ def test_the_page_gives_places_back_whose_threads_are_refused(front: Front, faul
     front.stop()
 
 
+def test_a_fault_in_a_library_is_told_and_loses_nothing(front: Front) -> None:
+    """As the fault of OpenSSL if memory is refused to it: the process ends by a signal."""
+    front.start()
+    assert Caller(front, "ann").ask("BID x 1 a 100") == "OK 1"
+    front.signal(signal.SIGSEGV)
+    ran = front.ended()
+    assert ran.status == -signal.SIGSEGV and "Fatal Python error: Segmentation fault" in ran.errors
+    front.start()
+    assert Caller(front, "ann").ask("BID x 1 a 100") == "OK 1"
+
+
+# Loses the first step of the first task, as a lack of memory may. Python loads this module at its start.
+LOST = """
+from asyncio import events
+run = events.Handle._run
+def lost(self):
+    events.Handle._run = run
+    self._loop.call_exception_handler({"message": "a step is lost", "exception": MemoryError()})
+events.Handle._run = lost
+"""
+
+
+def test_a_first_step_that_is_lost_ends_the_front(front: Front, room: Path, monkeypatch: pytest.MonkeyPatch) -> None:
+    """Nothing would ever go on: asyncio only logs it."""
+    (room / "sitecustomize.py").write_text(LOST)
+    monkeypatch.setenv("PYTHONPATH", str(room))
+    ran = front.run()
+    assert (ran.status, ran.output, ran.errors) == (1, "", "front: a fault of the front: MemoryError\n")
+
+
 def test_two_signals_and_more_end_it_once(front: Front) -> None:
     front.start()
     assert front.process

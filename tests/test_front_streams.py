@@ -9,6 +9,7 @@ import re
 import select
 import signal
 import subprocess
+import sys
 import termios
 from collections.abc import Iterator
 from contextlib import ExitStack
@@ -22,6 +23,8 @@ from harness.serving import wait_until
 from test_front_tokens import id_of, tokens
 
 FULL = "/dev/full"
+# The least that a pipe holds.
+PIPE_BYTES = 4_096
 SAID_FULL = "front: standard output can't be written: No space left on device"
 
 
@@ -34,6 +37,12 @@ def front(program: Program, room: Path) -> Iterator[Front]:
         (room / name).touch(mode=0o600)
     yield made
     made.kill()
+
+
+def waiting_in(reader: int) -> int:
+    """How many bytes wait to be read."""
+    counted = fcntl.ioctl(reader, termios.FIONREAD, bytes(4))
+    return int.from_bytes(counted, sys.byteorder)
 
 
 def shell(front: Front, redirection: str, *words: str) -> subprocess.CompletedProcess[str]:
@@ -131,9 +140,47 @@ def test_a_front_whose_output_fails_says_so_and_ends_with_1(front: Front) -> Non
         (front.folder / name).unlink()
     with open(FULL, "wb") as full:
         front.process = subprocess.Popen(front.words(), stdout=full, stderr=front.said)
-    front.wait_until_said(SAID_FULL)
-    ran = front.stop()
-    assert ran.status == 1 and ran.errors.count("can't be written") == 1
+    ran = front.ended(60)
+    assert ran.status == 1 and ran.errors.count(SAID_FULL) == ran.errors.count("it stops, because anyone who waits for its line LISTENING") == 1
+    assert [entry["kind"] for entry in front.entries("started", "stopped")] == ["started", "stopped"]
+
+
+def test_a_front_whose_output_is_closed_ends_by_itself(front: Front) -> None:
+    for name in ("R", "R.2", "R.asked"):
+        (front.folder / name).unlink()
+    ran = shell(front, ">&-")
+    assert ran.returncode == 1 and "front: standard output can't be written: Bad file descriptor\n" in ran.stderr
+
+
+def test_a_page_whose_line_is_lost_ends_the_front(program: Program, room: Path) -> None:
+    """A pipe has room for the line LISTENING alone. The line BOARD waits, and then its reader is gone."""
+    reader, writer = os.pipe()
+    fcntl.fcntl(writer, fcntl.F_SETPIPE_SZ, PIPE_BYTES)
+    os.write(writer, b"x" * (PIPE_BYTES - len("LISTENING 127.0.0.1 60000\n")))
+    with Front(program, room, has_board=True) as front:
+        assert program.format(front.file).status == 0
+        front.process = subprocess.Popen(front.words(), stdout=writer, stderr=front.said)
+        os.close(writer)
+        wait_until(lambda: waiting_in(reader) == PIPE_BYTES, 30, "the line LISTENING")
+        os.close(reader)
+        ran = front.ended(60)
+    assert ran.status == 1 and "standard output can't be written: Broken pipe" in ran.errors
+    assert "it stops, because anyone who waits for its line BOARD would wait without end" in ran.errors
+
+
+def test_a_result_that_is_lost_ends_no_front(program: Program, room: Path) -> None:
+    """Bidders don't need the line: the front goes on, and ends with 1 when it is stopped."""
+    with Front(program, room) as front:
+        assert program.format(front.file).status == 0
+        front.start()
+        assert front.process and front.process.stdout
+        front.process.stdout.close()
+        front.process.stdout = None
+        assert [front.ask(*line) for line in (("ann", "BID x 1 a 100"), ("desk", "CLOSE 1"))] == ["OK 1", "OK 2"]
+        front.wait_until_said("standard output can't be written: Broken pipe")
+        assert front.ask("ann", "BID x 2 a 200") == "OK 3"
+        ran = front.stop()
+    assert ran.status == 1 and "it stops" not in ran.errors
 
 
 def test_help_that_cannot_be_written(front: Front) -> None:
@@ -197,3 +244,21 @@ def test_a_terminal_that_is_set_not_to_block_is_waited_for(front: Front) -> None
         data = rest.read()
     assert process.communicate(timeout=60)[1] == b"" and process.returncode == 0
     assert data[filled:].decode().splitlines()[0] == f"desk {id_of(token_of('desk'))}"
+
+
+def test_a_configuration_that_cannot_be_found_is_named_though_a_stream_is_a_file(front: Front) -> None:
+    """The files that it names are looked for before anything is said."""
+    errors = front.folder / "errors"
+    text = front.config.read_text()
+    front.config.write_text(text.replace('record = "R"', 'record = "a\\u0000b/R"'))
+    assert shell(front, f"2> {errors}").returncode == 2
+    assert errors.read_text() == "front: record has to be there, as a text\n"
+    front.config.unlink()
+    front.config.symlink_to("C")
+    assert shell(front, f"2> {errors}").returncode == 2
+    assert errors.read_text() == f"front: {front.config}: Too many levels of symbolic links\n"
+    front.config.unlink()
+    front.config.write_text(text)
+    gone = f"mkdir gone && cd gone && rmdir ../gone && exec {' '.join(tool_words('front'))} --config C 2> {errors}"
+    assert subprocess.run(["bash", "-c", gone], cwd=front.folder, capture_output=True, timeout=60).returncode != 0
+    assert errors.read_text() == "front: C: No such file or directory\n"

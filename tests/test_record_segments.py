@@ -15,6 +15,7 @@ from hpb.record.asked import Asked
 from hpb.record.entries import MOST_WRITE, Entry, New, entry_line, read_entry
 from hpb.record.file import RecordFile
 from hpb.record.segments import segment_path, segment_paths
+from hpb.record.state import State
 
 AT = "2026-11-30T12:00:00.000000Z"
 SMALL_SEGMENT = 2_000
@@ -62,8 +63,10 @@ def test_segments_are_sealed_and_each_has_all_that_a_start_needs(tmp_path: Path)
         assert [entry["kind"] for entry in lines].count("sealed") == (each != paths[-1]) == (lines[-1]["kind"] == "sealed")
         assert os.stat(each).st_mode & 0o777 == 0o600
         if each != paths[0]:
-            last = max(int(entry["answer"][3:]) for entry in commands(path) if entry["entry"] < lines[0]["entry"])
-            assert lines[0]["state"] == {"names": NAMES, "count": last, "foreign": 0, "used": {"x": last}, "open": []}
+            before = [entry for entry in commands(path) if entry["entry"] < lines[0]["entry"]]
+            told: list[object] = [entry["line"] for entry in before]
+            wanted = {"names": NAMES, "count": len(before), "foreign": 0, "used": {"x": len(before)}, "open": [], "lines": told}
+            assert lines[0]["state"] == wanted
     again = opened(path)
     assert (again.state.count, again.state.used, again.place) == (30, {"x": 30}, record.place)
     assert [entry["answer"] for entry in commands(path)] == [f"OK {number}" for number in range(1, 31)]
@@ -234,6 +237,23 @@ def test_a_record_of_the_form_before_is_opened(before: Path) -> None:
     assert (state.count, state.used) == (6, {"x": 1, "y": 1, "z": 1, "w": 2, None: 1})
     assert state.open == {23: ("ann", b"BID x 2 a 160")}
     assert not list(before.parent.glob("R.2"))
+
+
+def test_a_record_of_an_older_program_is_read_and_gone_on_with(tmp_path: Path, monkeypatch: pytest.MonkeyPatch) -> None:
+    """Until December 2026 the first entry of a segment had no commands of the open round. They are read from the segments before it."""
+    path, head = tmp_path / "R", State.head
+    with monkeypatch.context() as older:
+        older.setattr(State, "head", lambda state: {name: value for name, value in head(state).items() if name != "lines"})
+        written(path, 30).close()
+    assert len(segment_paths(str(path))) > 3
+    record = RecordFile(str(path), SMALL_SEGMENT)
+    record.open()
+    assert record.state.lines == [f"BID x {number} a {number}00".encode() for number in range(1, 31)]
+    for number in range(31, 45):
+        record.write([bid(number)])
+    record.close()
+    assert [entry["answer"] for entry in commands(path)] == [f"OK {number}" for number in range(1, 45)]
+    assert opened(path).state.lines == [f"BID x {number} a {number}00".encode() for number in range(1, 45)]
 
 
 def test_a_record_of_the_form_before_is_gone_on_with_in_a_segment_behind_it(before: Path) -> None:

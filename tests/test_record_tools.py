@@ -54,7 +54,7 @@ def test_a_connection_to_another_is_taken() -> None:
         following.at_port(listener.getsockname()[1])(5).close()
 
 
-@pytest.mark.skipif(os.geteuid() != 0, reason="needs the rights of root")
+@pytest.mark.as_root
 @pytest.mark.parametrize("tool", ["client", "watch", "board"])
 def test_a_tool_alone_in_a_network_isnt_answered_by_itself(tool: str, tmp_path: Path) -> None:
     """Nobody listens at the port, and each connection gets that very port."""

@@ -244,6 +244,27 @@ def test_each_changed_byte_is_found(whole: bytes, replay: Replays, room: Path) -
         assert (ran.output, ran.errors.startswith("replay: entry "), ran.status) == ("", True, 1), (at, ran)
 
 
+def test_a_copy_that_ends_within_an_entry_is_read_up_to_there(program: Program, replay: Replays, room: Path) -> None:
+    """As docs/FRONT.md says of a copy that is made while the front runs. In the middle of a record that would be damage."""
+    told: list[Line] = [("ann", "BID x 1 a 100", "OK 1"), ("bob", "BID y 1 b 150", "OK 2"), ("desk", "CLOSE 1", "OK 3")]
+    entries: Entries = [("begin", {"form": 1, "definition": json.loads(definition())}), ("started", {"names": NAMES, "count": 0})]
+    for name, line, answer in told:
+        entries += [("asked", {"name": name, "line": line}), ("accepted", {"name": name, "line": line, "answer": answer, "asked": len(entries) + 1})]
+    whole = write(room / "R", entries).read_bytes()
+    ends = [place + 1 for place, byte in enumerate(whole) if byte == 10]
+    said = "replay: entry 8: it is cut short, as in a copy that was made while a front wrote. All before it was read\n"
+    for length in (ends[6] + 1, ends[7] - 1):
+        (room / "R").write_bytes(whole[:length])
+        ran = replay(room / "R")
+        assert ran.errors == said and ran.status == 1
+        assert [line.split()[-4:] for line in ran.output.split("\n\n")[0].splitlines()[1:]] == [["ann", "x", "a", "100"], ["bob", "y", "b", "150"]]
+        ran = replay(room / "R", "--commands", "2")
+        assert (ran.output, ran.errors, ran.status) == ("BID y 1 b 150\n", said, 1)
+    (room / "R").write_bytes(whole[: ends[4] - 5] + whole[ends[5] :])
+    ran = replay(room / "R")
+    assert (ran.output, ran.status) == ("", 1)
+
+
 def at_another_time(line: bytes) -> bytes:
     """An entry that is changed, under a hash that is right of itself."""
     entry = json.loads(line[records.HASH_BYTES + 1 :])

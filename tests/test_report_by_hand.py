@@ -4,20 +4,25 @@ from __future__ import annotations
 
 import hashlib
 import json
+import os
 import re
+import resource
 import shutil
 import subprocess
 from collections.abc import Callable
 from pathlib import Path
+from unittest import mock
 
 import pytest
 from harness.auctions import FIRST_ROUND, PAGE, definition, text_of
+from harness.conditions import Conditions
 from harness.fronts import run_tool, start_tool
 from harness.markup import Page, ReportPage, text_in
 from harness.programs import Program, shown
 from harness.serving import Serve
 from reports import EFFECT, MISSING, NEEDED, NOW, WARNING, page_text, read, read_page, report
 
+from hpb import program as asking
 from hpb.markup import element
 
 TOP = Path(__file__).resolve().parents[1]
@@ -147,6 +152,39 @@ def test_a_full_disk_is_told(program: Program, memory: Path) -> None:
     with open("/dev/full", "wb") as full, start_tool("definition", file, output=full) as process:
         assert process.communicate(timeout=SECONDS)[1] == b"definition: 92 stream: writing: No space left on device\n"
     assert process.returncode == 1
+
+
+@pytest.mark.parametrize(
+    ("limit", "most", "said"),
+    [
+        (resource.RLIMIT_FSIZE, PAGE, "no copy of the file can be made in /dev/shm: File too large"),
+        (resource.RLIMIT_NOFILE, 6, "the program can't be started: [Errno 24] Too many open files"),
+    ],
+)
+def test_a_system_that_refuses_a_copy_is_told(program: Program, room: Path, limit: int, most: int, said: str) -> None:
+    """As a full /dev/shm does. Before, the tool showed an error of Python's."""
+    file = program.keep(room / "F")
+    ran = run_tool("report", file, "--program", program.path, conditions=Conditions(limits={limit: most}))
+    assert (ran.output, ran.errors, ran.status) == ("", f"report: {said}\n", 1)
+
+
+def test_a_copy_that_cannot_be_written_leaves_no_folder(tmp_path: Path, monkeypatch: pytest.MonkeyPatch) -> None:
+    """Nor does one that is removed when there is no descriptor left, with which a folder could be looked through."""
+    monkeypatch.setattr(asking, "MEMORY", str(tmp_path))
+    with asking.Copy("hpb", b"an auction"), monkeypatch.context() as patch:
+        assert len(list(tmp_path.iterdir())) == 1
+        patch.setattr(os, "scandir", mock.Mock(side_effect=OSError(24, "Too many open files")))
+    assert os.listdir(tmp_path) == []
+
+    def write_bytes(path: Path, data: bytes) -> int:
+        path.touch()
+        raise OSError(28, "No space left on device")
+
+    monkeypatch.setattr(Path, "write_bytes", write_bytes)
+    with pytest.raises(asking.NotAnswered, match=f"^no copy of the file can be made in {tmp_path}: No space left on device$"):
+        with asking.Copy("hpb", b"an auction"):
+            pass
+    assert os.listdir(tmp_path) == []
 
 
 # Programs that lie.

@@ -1,22 +1,26 @@
-"""Tools whose terminal takes nothing, as after Ctrl-S: signals end them all the same, within some seconds."""
+"""Tools whose terminal takes nothing, as after Ctrl-S: signals end them all the same, within some seconds. And they leave nothing behind."""
 
 from __future__ import annotations
 
 import os
 import pty
+import resource
 import signal
 import subprocess
 import termios
 from collections.abc import Iterator
+from contextlib import ExitStack, suppress
 from pathlib import Path
 
 import pytest
 from boards import RULES
+from fronts import Front, script
 from harness.auctions import FIRST_ROUND
 from harness.conditions import Conditions
-from harness.fronts import start_tool
+from harness.fronts import run_tool, start_tool
 from harness.programs import Program
-from harness.serving import ADDRESS, Serve, Server, wait_until
+from harness.serving import ADDRESS, Serve, Server, free_port, wait_until
+from harness.users import User
 
 SECONDS = 60
 # What a tool may take to end, on a machine that does other things.
@@ -119,6 +123,32 @@ def test_what_writes_and_ends_is_ended_though_its_terminal_is_stopped(
     assert status == (1 if number == signal.SIGINT else -number)
 
 
+@pytest.mark.parametrize("number", [signal.SIGTERM, signal.SIGINT, signal.SIGHUP])
+@pytest.mark.parametrize("tool", ["report", "replay"])
+def test_no_copy_of_the_file_stays_behind_a_tool_that_is_ended(
+    tool: str, number: signal.Signals, front: Front, cleanup: ExitStack
+) -> None:
+    """A closed terminal sends SIGHUP, and `timeout` SIGTERM. Before, the copy stayed in memory."""
+    assert front.start().stop().status == 0
+    asked = front.folder / "asked"
+    slow = script(front.folder / "slow", f'[ "$1" = check ] || exec {front.program.path} "$@"\necho $$ "$3" > {asked}; exec sleep {SECONDS}')
+    words: list[object] = [front.file] if tool == "report" else [front.record, "--file", front.file]
+    running = start_tool(tool, *words, "--program", slow)
+    cleanup.callback(running.communicate)
+    cleanup.callback(running.kill)
+    wait_until(lambda: asked.exists() and asked.read_text().endswith("\n"), SECONDS, "a question about the copy")
+    process, copy = asked.read_text().split()
+    cleanup.callback(kill, int(process))
+    assert Path(copy).exists()
+    assert ended(running, number) == 1
+    assert not Path(copy).parent.exists()
+
+
+def kill(process: int) -> None:
+    with suppress(ProcessLookupError):
+        os.kill(process, signal.SIGKILL)
+
+
 def test_watch_gives_back_a_stopped_terminal(terminal: Terminal, server: Server, room: Path) -> None:
     """Its keys are as before; of the picture the terminal has taken no end."""
     before = termios.tcgetattr(terminal.other)
@@ -129,3 +159,14 @@ def test_watch_gives_back_a_stopped_terminal(terminal: Terminal, server: Server,
     terminal.wait_until_stuck()
     assert ended(running, signal.SIGTERM) == 0
     assert termios.tcgetattr(terminal.other) == before
+
+
+@pytest.mark.as_root
+@pytest.mark.parametrize("tool", ["watch", "board"])
+def test_what_follows_an_auction_says_that_the_system_gives_no_thread(tool: str, room: Path, nobody: User) -> None:
+    """Before, it showed an error of Python's."""
+    (room / "definition.json").write_bytes(RULES)
+    words = ["--listen", f"{ADDRESS}:0"] if tool == "board" else ["--once"]
+    refused = Conditions(user=nobody, limits={resource.RLIMIT_NPROC: 0}, folder=room)
+    ran = run_tool(tool, "--port", free_port(), "--definition", room / "definition.json", *words, conditions=refused)
+    assert (ran.output, ran.errors, ran.status) == ("", f"{tool}: the system gives no thread: can't start new thread\n", 1)

@@ -5,7 +5,7 @@ import random
 from collections.abc import Callable
 from dataclasses import dataclass, field, replace
 
-from front_promises import Broken, Promise, Promises, require
+from front_promises import Broken, Promise, Promises, require, told_form
 from front_world import DAY_SECONDS, LIMITS, ROLES, Wire, World, token
 from hpb.front.core import events
 from hpb.front.limits import Limits
@@ -131,6 +131,7 @@ class Day:
             "jumps": [(lambda: self.jump(source.choice([-DAY_SECONDS, DAY_SECONDS, 3.0])), 1)],
             "stops": [(lambda: world.post(events.Stop()), 1)],
             "vanishing": [(self.vanish, 4)],
+            "streams": [(world.lose_line, 1)],
             "mislaid": [(self.mislay, 1)],
         }
         return self.benign() + [(self.rude.move, 20)] + [move for kind in sorted(self.faults) for move in faults.get(kind, [])]
@@ -238,4 +239,4 @@ class Day:
         self.promises.at_the_end(self.world)
         for caller in self.callers:
             for number, line in caller.oks:
-                require(self.world.server.file[number - 1] == line.decode(), Promise.OK_IS_KEPT, (number, line))
+                require(self.world.server.file[number - 1] == told_form(line).decode(), Promise.OK_IS_KEPT, (number, line))

@@ -5,7 +5,7 @@ import enum
 from collections import deque
 
 from front_world import LIMITS, ROLES, TREE, Server, Watch, Wire, World, token
-from hpb.front.core import Phase, effects, events
+from hpb.front.core import Front, Phase, effects, events
 from hpb.front.core.effects import Effect
 from hpb.front.core.events import Event, Left
 
@@ -43,6 +43,7 @@ class Promise(enum.Enum):
     ENDS = "The front ends within ten seconds of its signal, whatever hangs, and says how."
     GOES_ON = "Lines are answered, by the next front if this one ended; nothing hangs."
     SAME_AUCTION = "After a restart the server gets no line of a name before it has shown the auction that the front goes on with. Else the front ends, and says so."
+    LISTENS = "Without its line LISTENING or BOARD on standard output the front ends; without any other it goes on."
     AGREES = "When anybody is let in the record has what the file has."
 
 
@@ -70,6 +71,11 @@ def refusal(name: str, line: bytes) -> bytes | None:
         return b"ERR front rights"
     is_others = words[0] in ("BID", "WAIVE", "WHO") and name != "desk" and words[1] not in tuple(BIDDERS[name])
     return b"ERR front rights" if is_others else None
+
+
+def told_form(line: bytes) -> bytes:
+    """A line as the server gets it: without the number of its round, and without the word that a close may end the auction."""
+    return line.split(b" ", 2)[-1] if line.startswith(b"IN ") else line.removesuffix(b" ENDING")
 
 
 def is_command(line: bytes) -> bool:
@@ -149,8 +155,13 @@ class Promises(Watch):
         if wire.name:
             waiting = len(wire.taken) - 1 - len(answers_of(wire))
             require(waiting <= world.limits.lines_waiting, Promise.WAITING, f"{waiting} wait")
-            if not refusal(wire.name, line):
-                self.came[wire.name].append((wire, line))
+            if not refusal(wire.name, told_form(line)):
+                self.came[wire.name].append((wire, told_form(line)))
+
+    def stepped(self, before: Front, event: Event, clock: float, outcome: tuple[Front, list[Effect]]) -> None:
+        if isinstance(event, events.Unpublished) and before.phase == Phase.OPEN:
+            ends = any(isinstance(effect, effects.MustEnd) for effect in outcome[1])
+            require(ends == event.line.startswith(("LISTENING ", "BOARD ")), Promise.LISTENS, event.line)
 
     # Effects.
 
@@ -196,13 +207,17 @@ class Promises(Watch):
         assert world.front
         rate, self.answered[wire.name] = world.limits.lines_per_second, self.answered[wire.name] + 1
         require(self.answered[wire.name] <= rate * (2 + world.front.time), Promise.RATE, f"{self.answered[wire.name]} lines")
-        refused = refusal(wire.name, asked)
-        wanted = {refused} if refused else self.given.get(asked, set())
-        require(line in wanted, Promise.ANSWERED_IN_ORDER, f"{asked!r} is answered {line!r}, not one of {wanted}")
+        self.look_at_wanted(world, wire, asked, line)
         if line.startswith(b"OK "):
-            number, pair = int(line[3:]), (asked.decode(), line.decode())
+            number, pair = int(line[3:]), (told_form(asked).decode(), line.decode())
             are = [some[number - 1 : number] for some in (kept(world), world.disk.accepted())]
             require(are == [[pair], [pair]], Promise.OK_IS_KEPT, (pair, are))
+
+    def look_at_wanted(self, world: World, wire: Wire, asked: bytes, line: bytes) -> None:
+        """Checks that this is an answer to that line: the front's refusal, or one that the server gave."""
+        refused = refusal(wire.name, told_form(asked))
+        wanted = {refused} if refused else self.given.get(told_form(asked), set())
+        require(line in wanted, Promise.ANSWERED_IN_ORDER, f"{asked!r} is answered {line!r}, not one of {wanted}")
 
     def look_at_line(self, world: World, session: int, line: bytes) -> None:
         """A line to the server."""
@@ -221,7 +236,7 @@ class Promises(Watch):
 
     def look_at_sender(self, world: World, name: str, line: bytes) -> None:
         require(not refusal(name, line), Promise.RIGHTS, (name, line))
-        senders = [wire for wire in self.wires if wire.name == name and line in wire.taken]
+        senders = [wire for wire in self.wires if wire.name == name and line in map(told_form, wire.taken)]
         require(bool(senders), Promise.RIGHTS, f"nobody has sent {line!r}")
         require(not all(wire.is_barred for wire in senders), Promise.REVOKED, line)
         if is_command(line):

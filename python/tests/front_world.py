@@ -12,6 +12,7 @@ from dataclasses import dataclass, field, replace
 from typing import Protocol
 
 from hpb.front.core import Front, Phase, Setting, effects, events, new_front, step
+from hpb.front.core.clock import Closing, Plan
 from hpb.front.core.effects import Effect
 from hpb.front.core.events import Event, Left
 from hpb.front.limits import DEFAULTS, Limits
@@ -30,6 +31,8 @@ ROLES = {
 LIMITS = replace(DEFAULTS, connections=3, unknown_connections=4, lines_waiting=3, lines_per_second=1_000_000)
 TREE = tree_of(read_definition(DEFINITION))
 DAY_SECONDS = 86_400
+# UTC when a world begins: 2026-12-02T09:00:00Z.
+BEGIN = 1_796_202_000.0
 
 
 def tokens_of(names: dict[str, int]) -> Tokens:
@@ -87,7 +90,11 @@ class Disk:
         for entry in self.entries:
             state.take(entry)
         left = [Left(name, line, number) for number, (name, line) in sorted(state.open.items())]
-        return events.RecordOpened(state.count, state.used, state.foreign, (*left, *self.beside.values()), self.place)
+        lines = None if state.lines is None else tuple(state.lines)
+        return events.RecordOpened(
+            state.count, state.used, state.foreign, (*left, *self.beside.values()), self.place, lines, state.clock, tuple(state.news), state.told,
+            state.read,
+        )
 
     @property
     def place(self) -> Place:
@@ -183,15 +190,26 @@ class World:
     passed: float = 0.0
     said: list[str] = field(default_factory=list)
     published: list[str] = field(default_factory=list)
+    # The lines on standard output of this front, of which one may be lost.
+    written: list[str] = field(default_factory=list)
     ends: list[str] = field(default_factory=list)
     is_admitting: bool = False
+    # The plan of the rounds, if they keep time; and the rule for a close that ends the auction.
+    plan: Plan | None = None
+    closing: Closing = Closing(is_plain=True)
+    # How many sessions the names share.
+    sessions: int = len(ROLES)
+    # By how much the machine's UTC is wrong, whether it is synchronised, and by how much the monotonic clock is too fast.
+    utc_error: float = 0.0
+    is_synchronised: bool = True
+    drift: float = 0.0
 
     # The front's process.
 
     def start(self) -> None:
-        setting = Setting(TREE, ROLES, len(ROLES), has_board=True)
+        setting = Setting(TREE, ROLES, self.sessions, has_board=True, plan=self.plan, closing=self.closing)
         self.front = new_front(setting, self.limits, tokens_of(self.tokens), self.clock)
-        self.server.state, self.is_admitting = "down", False
+        self.server.state, self.is_admitting, self.written = "down", False, []
         self.watch.started(self)
         self.post(self.disk.opened())
 
@@ -230,6 +248,7 @@ class World:
                 self.said.append(text)
             case effects.Publish(text):
                 self.published.append(text)
+                self.written.append(text)
             case effects.Finish(why):
                 self.ends.append(why)
             case effects.Write():
@@ -345,7 +364,7 @@ class World:
 
     def come_up(self) -> None:
         shown = self.server.judge(b"SHOW")
-        for _ in range(len(ROLES) + 1):
+        for _ in range(self.sessions + 1):
             self.post(events.SessionOpened(shown))
         if self.front:
             self.server.state = "up"
@@ -369,13 +388,23 @@ class World:
             self.asked.append(number := next(self.numbers))
             self.post(events.BoardAsks(number, b"NODE a"))
 
+    def read_clocks(self) -> None:
+        self.post(events.ClockRead(self.clock, BEGIN + self.passed + self.utc_error, self.is_synchronised))
+
+    def lose_line(self) -> None:
+        """Standard output loses a line; nothing is said of any later one."""
+        if self.front and self.written:
+            line, self.written = self.source.choice(self.written), []
+            self.post(events.Unpublished(line))
+
     def pass_time(self, seconds: float) -> None:
-        self.clock += seconds
+        self.clock += seconds * (1 + self.drift)
         self.passed += seconds
         due = [number for at, number in self.timers if at <= self.clock]
         self.timers = [(at, number) for at, number in self.timers if at > self.clock]
         for number in due:
             self.post(events.Waited(number))
+        self.read_clocks()
         self.post(events.Tick())
 
     def reload(self, name: str, number: int) -> None:

@@ -7,7 +7,7 @@ from collections import deque
 from dataclasses import dataclass, field
 
 from hpb.client.core import Core, Done, Drop, Send
-from hpb.lines import Accepted, Answer, AskNode, AskWho, Line, Show, format_answer, numbered, parse_line
+from hpb.lines import QUESTIONS, Accepted, Answer, Line, format_answer, numbered, parse_line
 from hpb.refusals import HpbError
 from hpb.rules import Auction, answer
 
@@ -92,6 +92,6 @@ class World:
 
 def is_same(first: Line, second: Line) -> bool:
     """Whether two commands ask for the same thing, whatever their tickets are."""
-    if isinstance(first, Show | AskNode | AskWho) or isinstance(second, Show | AskNode | AskWho):
+    if isinstance(first, QUESTIONS) or isinstance(second, QUESTIONS):
         return False
     return numbered(first, 0) == numbered(second, 0)

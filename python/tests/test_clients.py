@@ -150,8 +150,10 @@ def test_calls_give_answers_and_raise_refusals() -> None:
             client.node("nowhere")
         with pytest.raises(UnknownBidder):
             client.who("nobody")
-        with pytest.raises(ValueError):
-            client.bid("x y", "a", 1)
+        for bidder, node in (("x y", "a"), ("x\N{EURO SIGN}", "a"), ("x", "a\N{EURO SIGN}"), ("x", "a" * 120)):
+            with pytest.raises(ValueError):
+                client.bid(bidder, node, 1)
+        assert client.show().round == 2
         with pytest.raises(ValueError):
             client.send([Bid("x", "a", 1, ticket=3)])
 
@@ -163,6 +165,9 @@ def test_calls_of_asyncio_are_in_flight_together() -> None:
             assert found == [Accepted(number) for number in range(1, 5)]
             with pytest.raises(TooLow):
                 await client.bid("z", "d", 90)
+            with pytest.raises(ValueError):
+                await client.bid("z\N{EURO SIGN}", "d", 90)
+            assert (await client.show()).count == 4
             assert await client.close() == Accepted(5)
             assert (await client.show()).revenue == 500
             assert (await client.node("all")).minimum == 550
@@ -329,6 +334,27 @@ def test_words_that_do_not_fit_are_refused_at_once(words: dict[str, object]) -> 
         Client("localhost", 6000, **words)  # type: ignore[arg-type]
 
 
+@pytest.mark.parametrize("host", ["", "a..b", "a" * 70, "a\0b", "\ud800"])
+@pytest.mark.parametrize("kind", [Client, AsyncClient])
+def test_a_host_that_cannot_be_one_is_refused_at_once(kind: type[Client] | type[AsyncClient], host: str) -> None:
+    """Before, the first call raised an error of Python's, or waited for all of its time."""
+    for words in ((host, 6000, ()), ("localhost", 6000, ((host, 6000),))):
+        with pytest.raises(ValueError, match="is no host"):
+            kind(words[0], words[1], others=words[2])
+
+
 def test_a_refusal_has_a_class() -> None:
     assert issubclass(TooLow, Refused) and isinstance(refusal(22), TooLow)
     assert issubclass(NotWelcome, HpbError)
+
+
+def test_a_call_that_is_interrupted_takes_no_answer_of_the_next_one(monkeypatch: pytest.MonkeyPatch) -> None:
+    """By Ctrl-C before its line is sent: the next answer isn't for it. Before, the next call waited until the connection counted as lost."""
+    with Listener(Fake()) as listener, Client(ADDRESS, listener.port, timeout=20, silence=20) as client:
+        assert client.show().count == 0
+        with monkeypatch.context() as patch, pytest.raises(KeyboardInterrupt):
+            patch.setattr(client, "_send", lambda data: (_ for _ in ()).throw(KeyboardInterrupt))
+            client.who("x")
+        begun = time.monotonic()
+        assert client.who("y").bidder == "y" and client.bid("x", "a", 100) == Accepted(1)
+        assert time.monotonic() - begun < 10

@@ -284,7 +284,7 @@ def test_questions_are_answered_in_their_order() -> None:
     assert [type(outcome) for outcome in done(core)] == [NodeShown, WhoShown]
 
 
-@pytest.mark.parametrize("line", [Bid("x y", "a", 1), Bid("x", "a", -1), AskWho("")])
+@pytest.mark.parametrize("line", [Bid("x y", "a", 1), Bid("x", "a", -1), AskWho(""), Bid("x", "a" * 117, 1)])
 def test_what_can_not_be_sent_is_refused_at_once(line: Line) -> None:
     core = ready()
     with pytest.raises(ValueError):

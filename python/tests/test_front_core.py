@@ -15,7 +15,7 @@ from hpb.front.core import Front, effects, events, ledger, state, step
 from hpb.front.core.effects import Effect
 from hpb.front.core.events import Event
 
-ALL = "kills losses disks reloads jumps stops vanishing"
+ALL = "kills losses disks reloads jumps stops vanishing streams"
 SEEDS, MORE_SEEDS = 10, 100
 # The core's modules: none may use a clock, a socket, a file, a thread or a task.
 PURE = {"collections", "dataclasses", "enum", "hpb", "re", "typing"}
@@ -43,6 +43,7 @@ class Values(Promises):
         self.steps = 0
 
     def stepped(self, before: Front, event: Event, clock: float, outcome: tuple[Front, list[Effect]]) -> None:
+        super().stepped(before, event, clock, outcome)
         whole = parts(before)
         assert step(before, event, clock) == outcome
         assert parts(before) == whole and (self.before is None or whole == self.before or before.time == 0)

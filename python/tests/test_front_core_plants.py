@@ -216,6 +216,16 @@ def told_after_its_token_went(patch: pytest.MonkeyPatch) -> None:
     patch.setattr(sessions, "tell_again", blind)
 
 
+def lost_line_waited_for(patch: pytest.MonkeyPatch) -> None:
+    """A front whose line LISTENING was lost goes on, and is waited for without end."""
+    patch.setattr(ending, "LISTENS", ("STOPPED ",))
+
+
+def ended_by_any_lost_line(patch: pytest.MonkeyPatch) -> None:
+    """The front ends when any line of its output is lost, as the result of a close."""
+    patch.setattr(ending, "LISTENS", "")
+
+
 PLANTS: list[tuple[Plant, Promise, str]] = [
     (answer_before_sync, Promise.OK_IS_KEPT, ""),
     (entry_lost_at_kill, Promise.NOTHING_LOST, "kills"),
@@ -240,6 +250,8 @@ PLANTS: list[tuple[Plant, Promise, str]] = [
     (other_file_gone_on_with, Promise.SAME_AUCTION, "mislaid"),
     (told_before_it_is_known, Promise.SAME_AUCTION, "losses"),
     (told_after_its_token_went, Promise.REVOKED, "losses reloads slow"),
+    (lost_line_waited_for, Promise.LISTENS, "streams"),
+    (ended_by_any_lost_line, Promise.LISTENS, "streams"),
 ]
 
 

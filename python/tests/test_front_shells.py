@@ -2,21 +2,26 @@
 from __future__ import annotations
 
 import asyncio
+import re
 import threading
 from collections.abc import Callable
 from dataclasses import dataclass, field
+from typing import Any
 
 import pytest
 
 from front_world import LIMITS, ROLES, TREE, tokens_of
+from hpb.front import recorder as front_recorder
 from hpb.front.clients import Connection
 from hpb.front.core import Setting, effects, events, new_front
 from hpb.front.core.events import Event
+from hpb.front.faults import Stops
 from hpb.front.machine import Machine
 from hpb.front.recorder import Recorder, opened
 from hpb.front.server import Session
 from hpb.record import New, Place, State
 from hpb.record.asked import Asked
+from hpb.record.kept import NotKept
 
 SECONDS = 10
 
@@ -150,6 +155,9 @@ class SlowRecord:
         self.kinds += [entry.kind for entry in entries]
         self.place = Place(self.place.number + len(entries))
 
+    def look(self) -> None:
+        self.wait()
+
     def put(self, places: dict[int, Asked | None]) -> None:
         self.wait()
         self.beside |= places
@@ -218,6 +226,24 @@ def test_a_record_that_fails_is_told_once_and_nothing_more_is_written(fault: Exc
         await asyncio.sleep(0.05)
         assert isinstance(told[0], events.Failed) and told[0].why.startswith("the record can't be written: ")
         assert len(told) == 1 and record.kinds == []
+
+    asyncio.run(talk())
+
+
+@pytest.mark.parametrize("fault", [NotKept("R was removed"), OSError(5, "Input/output error")])
+def test_a_record_that_isnt_kept_is_missed_though_nothing_is_written(fault: Exception, monkeypatch: pytest.MonkeyPatch) -> None:
+    monkeypatch.setattr(front_recorder, "KEPT_SECONDS", 0.01)
+
+    async def talk() -> None:
+        record = SlowRecord()
+        record.may_write.set()
+        looking = asyncio.create_task(Recorder(record, list[Event]().append).keep_looking())
+        await asyncio.sleep(0.1)
+        assert not looking.done()
+        record.fault = fault
+        async with asyncio.timeout(SECONDS):
+            with pytest.raises(Stops, match=re.escape(str(fault))):
+                await looking
 
     asyncio.run(talk())
 
@@ -294,9 +320,26 @@ def refuse(*_: object) -> None:
     raise MemoryError
 
 
+@pytest.mark.filterwarnings("ignore::pytest.PytestUnraisableExceptionWarning")
 def test_a_thread_that_is_lost_with_its_result_ends_the_front() -> None:
-    told = written_by(lambda patch, loop: patch.setattr("concurrent.futures.Future.set_result", refuse))
-    assert isinstance(told[0], events.Failed) and "the thread that writes has ended" in told[0].why
+    told = written_by(lambda patch, loop: patch.setattr("hpb.threads._Job.do", refuse))
+    assert isinstance(told[0], events.Failed) and "the thread has ended" in told[0].why
+
+
+def test_an_event_of_the_record_that_is_lost_ends_the_front() -> None:
+    """Else no line would ever be answered again, and nothing would say so."""
+
+    def lose(patch: pytest.MonkeyPatch, loop: asyncio.AbstractEventLoop) -> None:
+        call_soon = loop.call_soon
+
+        def refuse_event(callback: Callable[..., object], *arguments: object, **more: Any) -> asyncio.Handle:
+            if any(isinstance(one, events.Synced) for one in arguments):
+                raise MemoryError
+            return call_soon(callback, *arguments, **more)
+
+        patch.setattr(loop, "call_soon", refuse_event)
+
+    assert written_by(lose) == [events.Failed("the record can't be written: MemoryError()")]
 
 
 def test_a_result_that_is_not_handed_over_is_found() -> None:

@@ -67,7 +67,13 @@ def test_what_is_no_answer_raises(text: str) -> None:
         parse_answer(text)
 
 
-@pytest.mark.parametrize("line", [Bid("x y", "a", 1), Bid("x", "a\n", 1), Bid("", "a", 1), Bid("x", "a", -1), Bid("x", "a", 2**64), Close(2**32)])
+@pytest.mark.parametrize(
+    "line",
+    [
+        Bid("x y", "a", 1), Bid("x", "a\n", 1), Bid("", "a", 1), Bid("x", "a", -1), Bid("x", "a", 2**64), Close(2**32),
+        Bid("x\N{EURO SIGN}", "a", 1), Bid("x", "a" * 120, 1),
+    ],
+)
 def test_what_can_not_be_a_line_is_not_written(line: Bid | Close) -> None:
     with pytest.raises(ValueError):
         format_line(line)

@@ -27,6 +27,16 @@ def test_a_file_tells_the_last_tickets_and_what_has_no_answer(tmp_path: pathlib.
     file.close()
 
 
+def test_a_carriage_return_ends_no_line_of_a_file(tmp_path: pathlib.Path) -> None:
+    """A name may have one: it is refused by the auction, and noted all the same."""
+    file = TicketFile(tmp_path / "tickets")
+    file.note("SENT BID x 1 a\rb 100", is_urgent=True)
+    file.close()
+    file = TicketFile(tmp_path / "tickets")
+    assert file.unanswered == (Bid("x", "a\rb", 100, ticket=1),)
+    file.close()
+
+
 def test_one_client_has_a_file(tmp_path: pathlib.Path) -> None:
     file = TicketFile(tmp_path / "tickets")
     with pytest.raises(TicketsInUse):
@@ -40,6 +50,25 @@ def test_a_file_of_something_else_is_refused(tmp_path: pathlib.Path) -> None:
     with pytest.raises(ValueError):
         TicketFile(tmp_path / "tickets")
     assert (tmp_path / "tickets").read_text() == "dear diary\n"
+
+
+@pytest.mark.parametrize("name", ["tickets", "tickets.new"])
+def test_a_file_that_others_may_write_is_refused(tmp_path: pathlib.Path, name: str) -> None:
+    """They could have made it, and would read each bid before its round is closed."""
+    (tmp_path / name).touch()
+    (tmp_path / name).chmod(0o666)
+    with pytest.raises(PermissionError, match="others may write it"):
+        TicketFile(tmp_path / "tickets")
+    assert (tmp_path / name).read_text() == ""
+
+
+@pytest.mark.skipif(os.geteuid() != 0, reason="needs the rights of root")
+@pytest.mark.parametrize("name", ["tickets", "tickets.new"])
+def test_a_file_of_another_user_is_refused(tmp_path: pathlib.Path, name: str) -> None:
+    (tmp_path / name).touch(mode=0o600)
+    os.chown(tmp_path / name, 65534, 65534)
+    with pytest.raises(PermissionError, match="another user owns it"):
+        TicketFile(tmp_path / "tickets")
 
 
 @pytest.mark.parametrize("text", ["a-token-of-ann-without-LF", "SENT BID x 1 a 100\ndear diary"])

@@ -14,18 +14,19 @@ if TYPE_CHECKING:
     from hpb.client import AsyncClient, Client, Ended, NotWelcome, Outcome, TicketsInUse, TicketsNotKept, Unanswered, View, read_token
     from hpb.lines import Accepted, AskNode, AskWho, Bid, Close, Command, NodeShown, Show, Shown, Stage, Waive, WhoShown
     from hpb.refusals import FrontRefused, HpbError, Refused
+    from hpb.rounds import Agreed, AskFront, News, NoNews, Previewed, Prospect, ReadUpTo, Schedule
 
 __all__ = [
-    "Accepted", "AskNode", "AskWho", "AsyncClient", "Bid", "Client", "Close", "Command", "Ended", "FrontRefused", "HpbError", "NodeShown",
-    "NotWelcome", "Outcome", "Refused", "Show", "Shown", "Stage", "TicketsInUse", "TicketsNotKept", "Unanswered", "View", "Waive",
-    "WhoShown", "read_token",
+    "Accepted", "Agreed", "AskFront", "AskNode", "AskWho", "AsyncClient", "Bid", "Client", "Close", "Command", "Ended", "FrontRefused",
+    "HpbError", "News", "NoNews", "NodeShown", "NotWelcome", "Outcome", "Previewed", "Prospect", "ReadUpTo", "Refused", "Schedule", "Show",
+    "Shown", "Stage", "TicketsInUse", "TicketsNotKept", "Unanswered", "View", "Waive", "WhoShown", "read_token",
 ]
 
 
 def __getattr__(name: str) -> Any:
     """A name of this package, imported when it is first used. Importing `hpb` imports nothing else: a front has to hold signals first."""
     if name in __all__:
-        for home in ("hpb.lines", "hpb.refusals", "hpb.client"):
+        for home in ("hpb.lines", "hpb.refusals", "hpb.rounds", "hpb.client"):
             if hasattr(found := import_module(home), name):
                 return getattr(found, name)
     raise AttributeError(f"module 'hpb' has no attribute {name!r}")

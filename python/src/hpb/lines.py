@@ -6,38 +6,44 @@ are texts without their LF. A byte beyond ASCII is the character with that numbe
 """
 import dataclasses
 import re
-from dataclasses import dataclass
+from dataclasses import dataclass, field
 from typing import TypeAlias, TypeVar
 
 from hpb.limits import MOST_AMOUNT, MOST_COMMANDS, MOST_LINE_BYTES, MOST_TICKET, NAME
 from hpb.refusals import BadLine, FrontRefused, HpbError, Refused
+from hpb.rounds import AskFront, FrontAnswer, format_front_answer, parse_front_answer
 
 # Commands.
 
 
 @dataclass(frozen=True, slots=True)
 class Bid:
-    """A bid: `bidder` offers `amount` dollars for `node`."""
+    """A bid: `bidder` offers `amount` dollars for `node`. A front takes it in this `round` alone, if one is given."""
 
     bidder: str
     node: str
     amount: int
     ticket: int = 0
+    round: int | None = field(default=None, repr=False)
 
 
 @dataclass(frozen=True, slots=True)
 class Waive:
-    """A waiver: the bidder keeps its eligibility at the close of this round."""
+    """A waiver: the bidder keeps its eligibility at the close of this round. A front takes it in this `round` alone, if one is given."""
 
     bidder: str
     ticket: int = 0
+    round: int | None = field(default=None, repr=False)
 
 
 @dataclass(frozen=True, slots=True)
 class Close:
-    """The end of the round. If nobody bid or waived in the round, it ends the auction for good."""
+    """The end of the round. If nobody bid or waived in the round, it ends the auction for good. A front refuses that by `end`, unless the
+    close is `ending`.
+    """
 
     ticket: int = 0
+    ending: bool = field(default=False, repr=False)
 
 
 @dataclass(frozen=True, slots=True)
@@ -72,8 +78,12 @@ class AskWho:
     bidder: str
 
 
-Question: TypeAlias = Show | AskNode | AskWho
+Question: TypeAlias = Show | AskNode | AskWho | AskFront
 Line: TypeAlias = Command | Question
+# A line that `hpb` itself takes.
+LineOfServer: TypeAlias = Command | Show | AskNode | AskWho
+# The kinds of questions, for `isinstance`.
+QUESTIONS = (Show, AskNode, AskWho, AskFront)
 
 # Answers.
 
@@ -135,7 +145,7 @@ class WhoShown:
         return self.waivers or 0
 
 
-Answer: TypeAlias = Accepted | Shown | NodeShown | WhoShown | Refused | FrontRefused
+Answer: TypeAlias = Accepted | Shown | NodeShown | WhoShown | Refused | FrontRefused | FrontAnswer
 
 
 class NoAnswer(HpbError):
@@ -148,14 +158,23 @@ def numbered(command: AnyCommand, ticket: int) -> AnyCommand:
 
 
 def format_line(line: Line) -> str:
-    """The text of a command or a question. If a name has a space or an LF, or a number is out of its range, ValueError is raised."""
+    """The text of a command or a question. ValueError is raised if a name has a space, an LF or a character that is no byte, or if a number
+    is out of its range. So it is if the line gets too long.
+    """
+    text = _text_of(line)
+    if len(text) > MOST_LINE_BYTES:
+        raise ValueError(f"a line has {MOST_LINE_BYTES} bytes at most, and this would have {len(text)}")
+    return text
+
+
+def _text_of(line: Line) -> str:
     match line:
-        case Bid(bidder, node, amount, ticket):
-            return f"BID {_word(bidder)} {_number(ticket, MOST_TICKET)} {_word(node)} {_number(amount, MOST_AMOUNT)}"
-        case Waive(bidder, ticket):
-            return f"WAIVE {_word(bidder)} {_number(ticket, MOST_TICKET)}"
-        case Close(ticket):
-            return f"CLOSE {_number(ticket, MOST_TICKET)}"
+        case Bid(bidder, node, amount, ticket, of):
+            return f"{_in(of)}BID {_word(bidder)} {_number(ticket, MOST_TICKET)} {_word(node)} {_number(amount, MOST_AMOUNT)}"
+        case Waive(bidder, ticket, of):
+            return f"{_in(of)}WAIVE {_word(bidder)} {_number(ticket, MOST_TICKET)}"
+        case Close(ticket, ending):
+            return f"CLOSE {_number(ticket, MOST_TICKET)}{' ENDING' if ending else ''}"
         case Stage(ticket):
             return f"STAGE {_number(ticket, MOST_TICKET)}"
         case Show():
@@ -164,6 +183,14 @@ def format_line(line: Line) -> str:
             return f"NODE {_word(node)}"
         case AskWho(bidder):
             return f"WHO {_word(bidder)}"
+        case AskFront(text) if "\n" not in text:
+            return text
+    raise ValueError(f"{line!r} can't be a line")
+
+
+def _in(number: int | None) -> str:
+    """The prefix of a command that is bound to a round."""
+    return "" if number is None else f"IN {_number(number, MOST_COMMANDS)} "
 
 
 def _word(text: str) -> str:
@@ -178,11 +205,12 @@ def _number(value: int, most: int) -> str:
     return str(value)
 
 
-_WORD = re.compile(r"[^ \n]+")
+# Each character is a byte of the line.
+_WORD = re.compile(r"[\0-\t\x0b-\x1f!-\xff]+")
 _DIGITS = re.compile(r"0|[1-9][0-9]*", re.ASCII)
 
 
-def parse_line(text: str) -> Line:
+def parse_line(text: str) -> LineOfServer:
     """The command or question in a line. Refused by `BadLine` (10), if it isn't of the grammar."""
     if len(text) > MOST_LINE_BYTES:
         raise BadLine(f"more than {MOST_LINE_BYTES} bytes")
@@ -202,6 +230,22 @@ def parse_line(text: str) -> Line:
         case ["WHO", bidder] if bidder:
             return AskWho(bidder)
     raise BadLine
+
+
+def parse_command_of_front(text: str) -> LineOfServer:
+    """The same for a command as a front takes it: `IN 3 BID x 1 a 100` and `CLOSE 4 ENDING` are two."""
+    words = text.split(" ", 2)
+    if words[0] == "IN" and len(words) == 3:
+        bound = parse_line(words[2])
+        if isinstance(bound, Bid | Waive):
+            return dataclasses.replace(bound, round=_read(words[1], MOST_COMMANDS))
+        raise BadLine
+    command = parse_line(text.removesuffix(" ENDING"))
+    if text.endswith(" ENDING"):
+        if not isinstance(command, Close):
+            raise BadLine
+        return Close(command.ticket, ending=True)
+    return command
 
 
 def _read(word: str, most: int) -> int:
@@ -236,6 +280,8 @@ def parse_answer(text: str) -> Answer:
         return WhoShown(found[1], int(found[2]), int(found[3]), int(found[4]), waivers)
     if found := _FRONT.fullmatch(text):
         return FrontRefused(found[1])
+    if own := parse_front_answer(text):
+        return own
     raise NoAnswer(f"this is no answer of an auction: {text[:100]!r}")
 
 
@@ -268,3 +314,5 @@ def format_answer(answer: Answer) -> str:
             return f"WHO {bidder} ELIGIBILITY {eligibility} ACTIVITY {activity} TICKET {ticket}{told}"
         case Refused() | FrontRefused():
             return answer.line
+        case _:
+            return format_front_answer(answer)

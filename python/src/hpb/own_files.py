@@ -40,6 +40,14 @@ def read_regular(path: str) -> bytes:
         return file.read()
 
 
+def is_at(file: int, path: str) -> bool:
+    """Whether this open file has this name."""
+    try:
+        return os.path.samestat(os.fstat(file), os.lstat(path))
+    except (FileNotFoundError, NotADirectoryError):
+        return False
+
+
 def look_at_owner(path: str, status: os.stat_result) -> None:
     """Raises OSError if it is no regular file, or if somebody else owns it or may write it."""
     if not stat.S_ISREG(status.st_mode):

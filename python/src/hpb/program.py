@@ -29,13 +29,28 @@ class Copy:
         self._program, self._image = program, image
 
     def __enter__(self) -> "Copy":
-        self._room = tempfile.TemporaryDirectory(prefix="hpb-copy-", dir=MEMORY if os.access(MEMORY, os.W_OK) else None)
-        self._file = pathlib.Path(self._room.name, "auction.hpb")
-        self._file.write_bytes(self._image)
+        folder = MEMORY if os.access(MEMORY, os.W_OK) else tempfile.gettempdir()
+        try:
+            self._room = pathlib.Path(tempfile.mkdtemp(prefix="hpb-copy-", dir=folder))
+        except OSError as fault:
+            raise NotAnswered(_no_copy(folder, fault)) from None
+        self._file = self._room / "auction.hpb"
+        try:
+            self._file.write_bytes(self._image)
+        except BaseException as fault:
+            self._remove()
+            if isinstance(fault, OSError):
+                raise NotAnswered(_no_copy(folder, fault)) from None
+            raise
         return self
 
     def __exit__(self, kind: type[BaseException] | None, fault: BaseException | None, trace: TracebackType | None) -> None:
-        self._room.cleanup()
+        self._remove()
+
+    def _remove(self) -> None:
+        """Removes the copy and its folder. That takes no descriptor, and there may be none left."""
+        self._file.unlink(missing_ok=True)
+        self._room.rmdir()
 
     def check(self) -> list[str]:
         """The answers to SHOW, and to NODE for each node. If the file is refused, `NotAnswered` is raised."""
@@ -58,6 +73,10 @@ class Copy:
             refusal = next((line for line in lines if line.startswith("ERR ")), f"status {ran.returncode}")
             raise NotAnswered(refusal.removeprefix("ERR ") + ": " + (ran.stderr.strip() or "hpb says no more"))
         return lines
+
+
+def _no_copy(folder: str, fault: OSError) -> str:
+    return f"no copy of the file can be made in {folder}: {fault.strerror or fault}"
 
 
 def answers_in_memory(program: str | PathLike[str], definition: Definition, lines: Sequence[str]) -> list[str]:

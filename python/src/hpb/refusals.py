@@ -281,6 +281,12 @@ class FrontRefused(HpbError):
         "long": "the line has more bytes than it may",
         "many": "too many connections of one name, or too many that haven't said who they are",
         "idle": "nothing has come for too long",
+        "closed": "no round is open",
+        "round": "another round is open",
+        "clock": "the round clock doesn't allow it now",
+        "end": "this close would end the auction, and doesn't say so",
+        "second": "this close would end the auction, and no second name has agreed",
+        "unknown": "it isn't known",
     }
 
     def __init__(self, word: str) -> None:

@@ -3,14 +3,15 @@ import os
 from collections.abc import Sequence
 from typing import TypeVar
 
-from hpb.client.core import Core, Done, Drop, Effect, Keep
+from hpb.client.core import Core, Done, Drop, Effect, Keep, check_line
 from hpb.client.outcomes import Outcome, TicketsNotKept
 from hpb.client.reaching import Settings, Turns
 from hpb.client.tickets import TicketFile, sender_of
-from hpb.lines import Accepted, Answer, AskWho, Command, NoAnswer, NodeShown, Question, Show, Shown, WhoShown, format_line
+from hpb.lines import Accepted, Answer, AskWho, Command, NoAnswer, NodeShown, Question, Show, Shown, WhoShown
 from hpb.refusals import FrontRefused, HpbError, Refused
+from hpb.rounds import Agreed, News, NoNews, Previewed, Prospect, ReadUpTo, Schedule
 
-Told = TypeVar("Told", Accepted, Shown, NodeShown, WhoShown)
+Told = TypeVar("Told", Accepted, Shown, NodeShown, WhoShown, Schedule, News, NoNews, ReadUpTo, Previewed, Prospect, Agreed)
 
 
 class Calls:
@@ -31,7 +32,7 @@ class Calls:
         asked for.
         """
         for line in lines:
-            format_line(line)
+            check_line(line)
         numbers = [self.core.ask(line) for line in lines]
         self.wanted.update(numbers)
         return numbers
@@ -111,6 +112,13 @@ def told(answer: Answer | HpbError, kind: type[Told]) -> Told:
     if not isinstance(answer, kind):
         raise NoAnswer(f"this is no answer to that line: {answer}")
     return answer
+
+
+def news_in(answer: Answer | HpbError) -> News | None:
+    """The news of an answer to EVENT, or None if there is nothing new."""
+    if isinstance(answer, NoNews):
+        return None
+    return told(answer, News)
 
 
 def answers_of(found: Sequence[Answer | HpbError]) -> list[Answer]:

@@ -12,34 +12,17 @@ from dataclasses import dataclass
 
 from hpb.client.outcomes import NotWelcome
 from hpb.client.rows import Asked, Row
-from hpb.limits import MOST_IN_FLIGHT
+from hpb.limits import MOST_IN_FLIGHT, MOST_TICKET
 from hpb.lines import (
-    Accepted,
-    Answer,
-    AskNode,
-    AskWho,
-    Bid,
-    Close,
-    Command,
-    Line,
-    NoAnswer,
-    Question,
-    Show,
-    Shown,
-    Stage,
-    Waive,
-    WhoShown,
-    format_answer,
-    format_line,
-    numbered,
-    parse_answer,
+    QUESTIONS, Accepted, Answer, AskWho, Bid, Close, Command, Line, NoAnswer, Question, Show, Shown, Stage, Waive, WhoShown,
+    format_answer, format_line, numbered, parse_answer,
 )
 from hpb.refusals import FrontRefused, HpbError, Refused
 
 # After so many refusals of a command's tickets for no known reason, the refusal is its answer: somebody else must be sending under the
 # same name.
 _MOST_WRONG = 3
-# The longest answer has 104 bytes.
+# The longest answer of a server has 104 bytes, and that of a front fewer than 256.
 _MOST_ANSWER = 256
 _FAILED, _GIVEN_UP = (91, 93), 95
 _ENDS = ("idle", "many")
@@ -91,6 +74,11 @@ class _LookUp:
         return Show() if self.row.bidder is None else AskWho(self.row.bidder)
 
 
+def check_line(line: Line) -> None:
+    """Raises ValueError if this can't be a line, whatever ticket it gets."""
+    format_line(line if isinstance(line, QUESTIONS) else numbered(line, MOST_TICKET))
+
+
 class Core:
     """A client's state. Report events by `ask`, `abandon`, `connected`, `received` and `lost`; then do what `effects` returns."""
 
@@ -113,8 +101,8 @@ class Core:
         """Asks for a line, which gets its ticket later. Returns the number that `Done` will bear. If it can't be a line, ValueError
         is raised.
         """
-        command = line if isinstance(line, Show | AskNode | AskWho) else numbered(line, 0)
-        format_line(command)
+        check_line(line)
+        command = line if isinstance(line, QUESTIONS) else numbered(line, 0)
         asked = Asked(next(self._numbers), command)
         self._waiting.append(asked)
         self._pump()
@@ -201,7 +189,7 @@ class Core:
         for asked in list(self._waiting):
             if len(self._flight) >= MOST_IN_FLIGHT:
                 break
-            if isinstance(asked.line, Show | AskNode | AskWho):
+            if isinstance(asked.line, QUESTIONS):
                 data += self._sent(asked)
                 continue
             row = self._row_of(asked.line)
@@ -236,7 +224,7 @@ class Core:
         self._waiting.remove(asked)
         self._flight.append(asked)
         text = format_line(asked.line)
-        if not isinstance(asked.line, Show | AskNode | AskWho):
+        if not isinstance(asked.line, QUESTIONS):
             self._effects.append(Keep(f"SENT {text}", is_urgent=True))
         return f"{text}\n".encode("latin-1")
 
@@ -285,7 +273,7 @@ class Core:
     def _answered(self, sent: Asked | _LookUp, answer: Answer) -> None:
         if isinstance(sent, _LookUp):
             self._take_look_up(sent.row, answer)
-        elif isinstance(sent.line, Show | AskNode | AskWho):
+        elif isinstance(sent.line, QUESTIONS):
             self._done(sent, answer)
         else:
             self._take_command(self._row_of(sent.line), sent, sent.line, answer)
@@ -361,7 +349,7 @@ class Core:
         row.settle()
 
     def _done(self, asked: Asked, answer: Answer) -> None:
-        if not isinstance(asked.line, Show | AskNode | AskWho) and asked.line.ticket:
+        if not isinstance(asked.line, QUESTIONS) and asked.line.ticket:
             told = "OK" if answer == Accepted(None) else format_answer(answer)
             self._note_done(asked.line, told)
         self._effects.append(Done(asked.number, answer))
@@ -373,7 +361,7 @@ class Core:
 
     def _goes_out_again(self, asked: Asked) -> bool:
         """Whether a lost line is sent again: under its ticket, or under a new one if it would have got 15."""
-        if isinstance(asked.line, Show | AskNode | AskWho):
+        if isinstance(asked.line, QUESTIONS):
             return not asked.is_abandoned
         row = self._row_of(asked.line)
         asked.was_lost = True
@@ -386,7 +374,7 @@ class Core:
 
     def _doubt(self, asked: Asked) -> None:
         """It isn't known whether this command counts, so its row's next ticket isn't known either."""
-        if not isinstance(asked.line, Show | AskNode | AskWho):
+        if not isinstance(asked.line, QUESTIONS):
             self._row_of(asked.line).forget()
 
     # Rows.

@@ -9,6 +9,7 @@ from dataclasses import dataclass, field
 from typing import Final
 
 from hpb.client.outcomes import NotWelcome
+from hpb.hosts import may_be_host
 
 _TOKEN: Final = re.compile(r"[!-~]{16,128}")
 _FIRST_PAUSE, _MOST_PAUSE = 0.05, 2.0
@@ -52,6 +53,8 @@ def settings(
     if plain and ca is not None:
         raise ValueError("`ca` is for TLS, and `plain` is without")
     for where in ((host, port), *others):
+        if not may_be_host(where[0]):
+            raise ValueError(f"{where[0]!r} is no host")
         if not 1 <= where[1] <= 65535:
             raise ValueError(f"{where[1]} is no port")
     is_tls = not plain and (token is not None or ca is not None)

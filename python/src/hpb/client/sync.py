@@ -8,7 +8,7 @@ import time
 from collections.abc import Iterator, Sequence
 from types import TracebackType
 
-from hpb.client.calls import Calls, answers_of, check_commands, outcome, told
+from hpb.client.calls import Calls, answers_of, check_commands, news_in, outcome, told
 from hpb.client.core import Send
 from hpb.client.following import View, look
 from hpb.client.outcomes import Ended, Outcome, Unanswered
@@ -17,6 +17,7 @@ from hpb.lines import (
     Accepted, Answer, AskNode, AskWho, Bid, Close, Command, NodeShown, Question, Show, Shown, Stage, Waive, WhoShown,
 )
 from hpb.refusals import HpbError
+from hpb.rounds import AskFront, Agreed, News, Previewed, Prospect, ReadUpTo, Schedule
 
 _MOST_BYTES = 65536
 
@@ -78,20 +79,20 @@ class Client:
 
     # Commands.
 
-    def bid(self, bidder: str, node: str, amount: int) -> Accepted:
-        """Bids `amount` dollars for a node; refused by 11 to 15 and 20 to 26."""
-        return told(self._asked([Bid(bidder, node, amount)])[0], Accepted)
+    def bid(self, bidder: str, node: str, amount: int, round: int | None = None) -> Accepted:
+        """Bids `amount` dollars for a node; refused by 11 to 15 and 20 to 26. A front takes it in that `round` alone, if one is given."""
+        return told(self._asked([Bid(bidder, node, amount, round=round)])[0], Accepted)
 
-    def waive(self, bidder: str) -> Accepted:
+    def waive(self, bidder: str, round: int | None = None) -> Accepted:
         """Sends a waiver, which keeps the bidder's eligibility at the close of this round; refused by 11, 13 to 15, 20, 26, 28 and 29."""
-        return told(self._asked([Waive(bidder)])[0], Accepted)
+        return told(self._asked([Waive(bidder, round=round)])[0], Accepted)
 
-    def close(self) -> Accepted:
+    def close(self, ending: bool = False) -> Accepted:
         """Closes the round, as the auctioneer; refused by 13 to 15, 20 and 26.
 
-        If nobody bid or waived in the round, this ends the auction for good.
+        If nobody bid or waived in the round, this ends the auction for good. A front refuses that by `end`, unless it is `ending`.
         """
-        return told(self._asked([Close()])[0], Accepted)
+        return told(self._asked([Close(ending=ending)])[0], Accepted)
 
     def stage(self) -> Accepted:
         """Moves on to the next stage percentage, as the auctioneer; refused by 13 to 15, 20, 26, and by 27 after the last stage."""
@@ -119,6 +120,38 @@ class Client:
     def who(self, bidder: str) -> WhoShown:
         """A bidder as of now; refused by 11."""
         return told(self._asked([AskWho(bidder)])[0], WhoShown)
+
+    # Lines of a front whose rounds keep time.
+
+    def schedule(self) -> Schedule:
+        """The state of the round clock."""
+        return told(self._asked([AskFront("SCHEDULE")])[0], Schedule)
+
+    def news(self, after: int | None = None) -> News | None:
+        """The first news behind a number, or behind those that this name has read; None if there is nothing new."""
+        return news_in(self._asked([AskFront("EVENT" if after is None else f"EVENT {after}")])[0])
+
+    def read(self, upto: int) -> ReadUpTo:
+        """Says that all news up to this number were read."""
+        return told(self._asked([AskFront(f"READ {upto}")])[0], ReadUpTo)
+
+    def tell(self, line: str) -> News:
+        """Changes the clock, or announces something, as the auctioneer: `OPEN 3 UNTIL 10:30`, `EXTEND 3 10:45`, `PAUSE`, `RESUME`,
+        `SAY all we begin at ten`. Comes to the news of it.
+        """
+        return told(self._asked([AskFront(line)])[0], News)
+
+    def preview(self) -> Previewed:
+        """What a close would do now, in sum, as the auctioneer."""
+        return told(self._asked([AskFront("PREVIEW")])[0], Previewed)
+
+    def prospect(self, bidder: str) -> Prospect:
+        """What a close would do to a bidder now, as the auctioneer."""
+        return told(self._asked([AskFront(f"PREVIEW {bidder}")])[0], Prospect)
+
+    def agree(self, ticket: int) -> Agreed:
+        """Agrees that the close with this ticket ends the auction, as a second name."""
+        return told(self._asked([AskFront(f"AGREE {ticket}")])[0], Agreed)
 
     def follow(self, nodes: Sequence[str] = (), bidders: Sequence[str] = (), every: float = 1.0) -> Iterator[View]:
         """Views of these nodes and bidders: one at once, and another whenever the auction has changed, up to its end.
@@ -163,9 +196,10 @@ class Client:
                     self._go_on(end)
                     self._perform()
             except BaseException:
-                # Nobody waits for these lines any more, whatever ended the waiting.
+                # Nobody waits for these lines any more, whatever ended the waiting. Nobody knows how much of them was sent, either.
                 for number in numbers:
                     self._calls.give_up(number)
+                self._lose("a call was interrupted")
                 raise
             return [self._outcome(number) for number in numbers]
 

@@ -10,7 +10,8 @@ import os
 import pathlib
 import stat
 
-from hpb.lines import Bid, Close, Command, Stage, Waive, format_line, parse_line
+from hpb.lines import Bid, Close, Command, Stage, Waive, format_line, parse_command_of_front
+from hpb.own_files import look_at_owner
 from hpb.refusals import HpbError
 
 
@@ -22,7 +23,8 @@ class TicketFile:
     """The tickets that a client used, by their senders. One client at a time has the file.
 
     `unanswered` are the commands that an earlier client sent without getting an answer, in their order. If the file can't be read
-    or written, OSError is raised; if it is no file of tickets, or another file has its name with `.new` behind it, ValueError.
+    or written, OSError is raised; so it is if another user owns the file or may write it. If it is no file of tickets, or another file
+    has its name with `.new` behind it, ValueError is raised.
     """
 
     def __init__(self, path: str | os.PathLike[str]) -> None:
@@ -37,7 +39,7 @@ class TicketFile:
             fcntl.flock(self._file, fcntl.LOCK_EX | fcntl.LOCK_NB)
             if not os.path.samestat(os.fstat(self._file), os.stat(self.path)):
                 raise BlockingIOError
-            *lines, rest = self.path.read_text(encoding="latin-1").split("\n")
+            *lines, rest = self.path.read_bytes().decode("latin-1").split("\n")
             for line in lines:
                 self._take(line)
             if not _may_be_half(rest):
@@ -76,7 +78,7 @@ class TicketFile:
     def _take(self, text: str) -> None:
         kind, _, rest = text.partition(" ")
         line, _, told = rest.partition(" = ")
-        command = parse_line(line) if kind in ("SENT", "DONE") else None
+        command = parse_command_of_front(line) if kind in ("SENT", "DONE") else None
         if not isinstance(command, Bid | Waive | Close | Stage):
             raise ValueError(f"{self.path}: this is no line of tickets: {text!r}")
         if kind == "SENT":
@@ -110,11 +112,17 @@ class TicketFile:
 
 
 def _open(path: pathlib.Path) -> int:
-    """A file of tickets, or a new one. A link isn't followed, and nothing but a regular file is taken: a pipe would be waited for."""
+    """A file of tickets, or a new one. A link isn't followed, and nothing but a regular file is taken: a pipe would be waited for. Nor is
+    a file taken that another user has made or may write: he could read the bids."""
     file = os.open(path, os.O_RDWR | os.O_CREAT | os.O_APPEND | os.O_NOFOLLOW | os.O_NONBLOCK | os.O_CLOEXEC, 0o600)
-    if not stat.S_ISREG(os.fstat(file).st_mode):
+    try:
+        status = os.fstat(file)
+        if not stat.S_ISREG(status.st_mode):
+            raise ValueError(f"{path}: it isn't a regular file")
+        look_at_owner(str(path), status)
+    except BaseException:
         os.close(file)
-        raise ValueError(f"{path}: it isn't a regular file")
+        raise
     return file
 
 

@@ -10,12 +10,11 @@ a token. docs/BOARD.md describes the page.
 """
 import argparse
 import sys
-import threading
 from collections.abc import Callable
 
 from hpb.commands import parser
 from hpb.commands.shell import end_by_signals, from_shell, say
-from hpb.pages.following import Follower, NotFollowed, at_port
+from hpb.pages.following import Follower, NotFollowed, at_port, started
 from hpb.pages.options import add_options, followed
 from hpb.pages.server import Server
 from hpb.pages.walls import Anybody, Wall
@@ -60,8 +59,8 @@ def _serve(given: argparse.Namespace) -> None:
     guests = Anybody(Wall(auction.tree, auction.bidders, follower.view))
     faults: list[HpbError] = []
     with _listening(given, guests) as server:
+        started(_keep_following, follower, server.shutdown, faults)
         print(f"BOARD {server.url()}", flush=True)
-        threading.Thread(target=_keep_following, args=(follower, server.shutdown, faults), daemon=True).start()
         server.serve_forever()
     raise faults[0]
 

@@ -3,6 +3,7 @@
     tools/client 5000 < lines                                  to `hpb serve` at port 5000 of this machine
     tools/client localhost:6000 --token ann.token --ca front.pem < lines             to a front, over TLS
     tools/client localhost:6000 --token auction.tokens --name ann --ca front.pem     the same, by a file of all tokens
+    tools/client localhost:6000 --token ann.token --ca front.pem --news              writes a front's news as they come
 
 It connects when the first line comes. If the connection is lost, it connects again for up to a minute, says the token again, and
 sends the line that has no answer again. A command's ticket makes sure that it is accepted once; a repeat gets the same number. If
@@ -27,13 +28,15 @@ from typing import BinaryIO
 
 from hpb.commands import parser
 from hpb.commands.shell import from_shell, say
-from hpb.pages.reaching import ENDS, GivesUp, add_options, connected, context_of, look_at_options, read_place, read_token
+from hpb.pages.reaching import ENDS, TAKEN_AWAY, GivesUp, add_options, connected, context_of, look_at_options, read_place, read_token
 from hpb.plain import plain
 from hpb.streams import STANDARD_INPUT, STANDARD_OUTPUT, lines_of, write_all
 
-# The longest answer, with its LF: docs/PROTOCOL.md.
-MOST_ANSWER = 104 + 1
+# The longest answer of `hpb serve`, and of a front, each with its LF: docs/PROTOCOL.md.
+MOST_ANSWER, MOST_OF_FRONT = 104 + 1, 255 + 1
 PATIENCE, SILENCE, PAUSE = 60, 2, 0.1
+# How often a front is asked for news, in seconds.
+PACE = 1.0
 
 
 class Client:
@@ -42,6 +45,7 @@ class Client:
     def __init__(self, place: tuple[str, int], token: str | None = None, context: ssl.SSLContext | None = None) -> None:
         """To a host and a port. If there is a token, it is sent first."""
         self.place, self.token, self.context = place, token, context
+        self.most = MOST_OF_FRONT if token else MOST_ANSWER
         self.socket: socket.socket | None = None
         self.stream: BinaryIO | None = None
 
@@ -67,9 +71,11 @@ class Client:
             self.socket = connected(self.place, self.token, self.context, PATIENCE)
             self.stream = self.socket.makefile("rb")
         self.socket.sendall(line)
-        answer = self.stream.readline(MOST_ANSWER)
-        if len(answer) == MOST_ANSWER and not answer.endswith(b"\n"):
-            raise GivesUp(f"what is at {self.place[0]}, port {self.place[1]}, is no auction: its answer has more than {MOST_ANSWER - 1} bytes")
+        answer = self.stream.readline(self.most)
+        if len(answer) == self.most and not answer.endswith(b"\n"):
+            raise GivesUp(f"what is at {self.place[0]}, port {self.place[1]}, is no auction: its answer has more than {self.most - 1} bytes")
+        if answer == TAKEN_AWAY + b"\n":
+            raise GivesUp(f"the token isn't known any more ({TAKEN_AWAY.decode()}): if the last line is a command, it may be accepted or not")
         if not answer.endswith(b"\n") or answer[:-1] in ENDS:
             raise ConnectionError(answer.decode("latin-1").strip() or "it ends the connection")
         return answer
@@ -88,12 +94,32 @@ def shown(answer: bytes) -> bytes:
     return f"{plain(answer[:-1].decode('latin-1'))}\n".encode() if os.isatty(STANDARD_OUTPUT) else answer
 
 
+def follow(client: Client) -> None:
+    """Writes a front's news (docs/ROUNDS.md), each once, until the auction is over. A GivesUp says that the front has none."""
+    number = 0
+    while True:
+        answer = client.ask(b"EVENT %d\n" % number)
+        words = answer.split(b" ")
+        if answer == b"EVENT -\n":
+            time.sleep(PACE)
+        elif len(words) > 3 and words[0] == b"EVENT" and words[1].isdigit():
+            write_all(STANDARD_OUTPUT, shown(answer))
+            number = int(words[1])
+            if words[3] == b"OVER":
+                return
+        else:
+            raise GivesUp(f"EVENT is answered {plain(answer[:-1].decode('latin-1'))}: this front has no news")
+
+
 def read_words() -> argparse.Namespace:
     words = parser(__doc__)
     words.add_argument("place", type=read_place, metavar="PORT|HOST:PORT", help="the auction's address")
     add_options(words)
+    words.add_argument("--news", action="store_true", help="write a front's news as they come, and read no standard input")
     given = words.parse_args()
     look_at_options(words, given)
+    if given.news and not given.token:
+        words.error("--news goes with --token")
     return given
 
 
@@ -105,6 +131,9 @@ def main() -> int:
         client = Client(given.place)
         if given.token:
             client = Client(given.place, read_token(given.token, given.name), context_of(given))
+        if given.news:
+            follow(client)
+            return 0
         for line in lines_of(STANDARD_INPUT):
             if not line.endswith(b"\n"):
                 raise GivesUp("the last line has no LF and may be half a line: it isn't sent")

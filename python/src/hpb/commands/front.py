@@ -27,8 +27,13 @@ import signal
 
 # From here on, a signal waits until the front can take it.
 signal.pthread_sigmask(signal.SIG_BLOCK, {signal.SIGHUP})
+import contextvars
+
+# If memory is refused to the first context of all, Python ends by SIGSEGV; each later one is made from this one.
+contextvars.copy_context()
 import argparse
 import asyncio
+import faulthandler
 import os
 import socket
 import sys
@@ -39,13 +44,13 @@ from hpb.front.config import Config
 from hpb.front.faults import Stops, Wrong
 from hpb.front.network import Refused
 from hpb.front.running import Running
-from hpb.front.shell import Shell, change_tokens, end_at_once, fault_says, read_words, take_sockets
+from hpb.front.shell import Shell, change_tokens, end_at_once, end_by_fault, fault_says, read_words, take_sockets
 from hpb.front.streams import streams_lead_astray
 from hpb.front.terms import Terms, read_terms
 from hpb.front.watch import free_signals, hold_signals
 from hpb.front.words import Teller
 from hpb.rules.tree import Tree
-from hpb.streams import hold_closed_streams
+from hpb.streams import STANDARD_ERROR, hold_closed_streams
 
 LOG_SECONDS = 0.5
 
@@ -58,12 +63,15 @@ def serve(given: argparse.Namespace, teller: Teller) -> None:
         teller.say(f"nobody may bid for {bidder}")
     for name in terms.tokens.silent(config.roles):
         teller.say(f"{name} has no token: nobody can connect as {name}")
+    for path in config.read_by_all():
+        teller.say(f"warning: every user may read {path}, and so the bids of the open round: `chmod 600` it")
     sockets = take_sockets(config)
     hold_signals()
     shell = Shell(config, given, teller)
     shell.start()
     loop = asyncio.new_event_loop()
     asyncio.set_event_loop(loop)
+    loop.set_exception_handler(end_by_fault)
     try:
         loop.run_until_complete(run(config, terms, tree, sockets, shell))
     except (Stops, OSError) as fault:
@@ -95,6 +103,8 @@ def main() -> int:
     hold_closed_streams()
     if streams_lead_astray(sys.argv[1:]):
         return 2
+    # If Python or a library of C ends by a signal, as OpenSSL without memory for a session, standard error says so.
+    faulthandler.enable(STANDARD_ERROR)
     teller = Teller()
     try:
         do(read_words(__doc__, program_name()), teller)

@@ -17,7 +17,7 @@ RECORD is the record's first segment; the others stand beside it, as RECORD.2, R
 docs/FRONT.md says what that proves and what it doesn't. The status is:
 
 - 0, if all of this holds;
-- 1, if something differs or the record is damaged;
+- 1, if something differs or the record is damaged. If it merely ends within an entry, all before that is printed;
 - 2, if the arguments are wrong.
 """
 import argparse
@@ -28,14 +28,15 @@ import sys
 from collections.abc import Iterator, Sequence
 
 from hpb.commands import parser
-from hpb.commands.shell import from_shell, output_leads_to, say
+from hpb.commands.shell import end_by_signals, from_shell, output_leads_to, say
 from hpb.drawing.charts import Panel, picture
 from hpb.plain import plain
-from hpb.record import Damaged, Entry, record_entries
+from hpb.record import CutShort, Damaged, Entry, Place, record_entries
 from hpb.record.replay import Replay, replay
 from hpb.record.story import Story, read_story
 from hpb.refusals import HpbError, says
 
+_FAILED = 1
 _MOST_TOLD = 20
 _PICTURE = b"<svg"
 
@@ -48,6 +49,8 @@ class _WritesNot(Exception):
 def main() -> int:
     """Reads the arguments, and returns the status."""
     given = _read_words()
+    # No copy of the auction's file stays.
+    end_by_signals(_FAILED)
     faults: Sequence[str]
     try:
         _look_at_places(given.svg)
@@ -95,7 +98,9 @@ def _look_at_places(svg: str | None) -> None:
 
 def _found_wrong(given: argparse.Namespace) -> Sequence[str]:
     """The faults that were found. Everything else is printed."""
-    story = read_story(record_entries(given.record))
+    cut = list[str]()
+    story = read_story(_up_to_cut(record_entries(given.record), cut))
+    story.faults.extend(cut)
     if given.commands is not None:
         for command in story.commands[max(given.commands, 1) - 1 :]:
             print(plain(command.line))
@@ -116,6 +121,14 @@ def _found_wrong(given: argparse.Namespace) -> Sequence[str]:
     if not faults:
         _print_sum(story, given.file)
     return faults
+
+
+def _up_to_cut(entries: Iterator[tuple[Entry, Place]], cut: list[str]) -> Iterator[tuple[Entry, Place]]:
+    """The entries, up to one within which the record ends. A fault about that is added to `cut`."""
+    try:
+        yield from entries
+    except CutShort as fault:
+        cut.append(f"{fault}, as in a copy that was made while a front wrote. All before it was read")
 
 
 def _print_sum(story: Story, file: str | None) -> None:

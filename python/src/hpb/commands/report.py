@@ -20,14 +20,14 @@ The status is:
 import sys
 
 from hpb.commands import parser, write_out
-from hpb.commands.shell import from_shell, say
+from hpb.commands.shell import end_by_signals, from_shell, say
 from hpb.drawing.tree import whole_picture
 from hpb.file import read_image
 from hpb.refusals import HpbError, says
 from hpb.report.closing import read_report
 from hpb.report.page import page
 
-_NOT_RIGHT = 3
+_FAILED, _NOT_RIGHT = 1, 3
 
 
 @from_shell
@@ -38,12 +38,14 @@ def main() -> int:
     words.add_argument("--program", default="hpb", help="the program to ask (default hpb)")
     words.add_argument("--picture", action="store_true", help="only the tree, as SVG")
     chosen = words.parse_args()
+    # No copy of the auction's file stays.
+    end_by_signals(_FAILED)
     try:
         report = read_report(chosen.program, read_image(chosen.file))
         write_out(whole_picture(report.tree, report.told) if chosen.picture else page(report))
     except HpbError as fault:
         say(says(fault))
-        return 1
+        return _FAILED
     for wrong in report.faults:
         say(f"not right: {wrong}")
     return _NOT_RIGHT if report.faults else 0

@@ -87,9 +87,10 @@ class _Output(io.RawIOBase):
         return len(data)
 
 
-def end_by_signals() -> None:
-    """From now on SIGTERM, SIGINT and SIGHUP end the command with 0, if its output is still there."""
-    _end_by(0, *_END_SIGNALS)
+def end_by_signals(status: int = 0) -> None:
+    """From now on SIGTERM, SIGINT and SIGHUP end the command with this status, if its output is still there. What it has begun is cleaned up
+    first."""
+    _end_by(status, *_END_SIGNALS)
 
 
 def _end_by(status: int, *numbers: signal.Signals) -> None:

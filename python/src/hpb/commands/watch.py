@@ -24,7 +24,7 @@ from typing import Final
 
 from hpb.commands import parser
 from hpb.commands.shell import end_by_signals, from_shell, say
-from hpb.pages.following import Follower, NotFollowed, at_port
+from hpb.pages.following import Follower, NotFollowed, at_port, started
 from hpb.pages.options import add_options, at_front, followed
 from hpb.pages.reaching import look_at_options
 from hpb.pages.telling import clock, contact_says
@@ -48,14 +48,16 @@ class Watch:
         auction = followed(given)
         self.tree = auction.tree
         opens = at_port(given.port) if given.front is None else at_front(given)
-        self.follower = Follower(auction.tree, auction.bidders, opens, self._take, auction.places, auction.pace)
+        # A front is asked for its news, too.
+        names = [""] if given.front else []
+        self.follower = Follower(auction.tree, auction.bidders, opens, self._take, auction.places, auction.pace, names=names)
         self.changed, self.ended = threading.Event(), threading.Event()
         self.fault: HpbError | None = None
         self._views, self._lock = [self.follower.view], threading.Lock()
 
     def start(self) -> None:
         """Starts following, in a thread of its own."""
-        threading.Thread(target=self._follow, daemon=True).start()
+        started(self._follow)
 
     def taken(self) -> list[View]:
         """The views that came since the last call."""

@@ -11,7 +11,7 @@ import time
 from collections.abc import Callable, Iterator
 from dataclasses import dataclass
 
-from hpb.own_files import MODE, give_name, open_own
+from hpb.own_files import MODE, give_name, is_at, open_own
 
 # So many seconds another program's change may take.
 WAIT_SECONDS = 10.0
@@ -118,14 +118,6 @@ def locks(file: int) -> bool:
             raise
         return False
     return True
-
-
-def is_at(file: int, path: str) -> bool:
-    """Whether this open file has this name."""
-    try:
-        return os.path.samestat(os.fstat(file), os.lstat(path))
-    except FileNotFoundError:
-        return False
 
 
 def sync_folder(path: str) -> None:

@@ -21,6 +21,8 @@ LEAVE_SECONDS = 2
 # After so many silent seconds the system checks that the other end is still there: how often, in seconds, and how many times.
 KEEPALIVE = {socket.TCP_KEEPIDLE: 30, socket.TCP_KEEPINTVL: 10, socket.TCP_KEEPCNT: 3}
 NETWORK_BITS = 64
+# More than any limits allow.
+MOST_CONNECTIONS = 1_000_000_000
 # So many addresses are remembered.
 MOST_ADDRESSES = 10_000
 # The reason for refusing a connection before its first line: its address begins too many TLS handshakes.
@@ -158,6 +160,8 @@ class Clients:
     def __init__(self, listener: socket.socket, terms: Terms, post: Post, shell: Shell, fail: Callable[[str], None]) -> None:
         self.listener, self.terms, self.post, self.log, self.say = listener, terms, post, shell.log, shell.teller.say
         self.is_tls = terms.certificate is not None
+        # So many connections are taken at a time, whatever the limits are: the system gives no descriptors for more.
+        self.most = MOST_CONNECTIONS
         self.connections: dict[int, Connection] = {}
         self.numbers = itertools.count(1)
         self.rates = Rates(terms.limits.handshakes_per_second)
@@ -201,6 +205,8 @@ class Clients:
         """Takes connections until it is cancelled."""
         loop, told = asyncio.get_running_loop(), False
         while True:
+            while len(self.connections) >= self.most:
+                await asyncio.sleep(NO_DESCRIPTORS_PAUSE)
             try:
                 taken, address = await loop.sock_accept(self.listener)
             except OSError as fault:

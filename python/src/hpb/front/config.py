@@ -11,10 +11,11 @@ from typing import Any
 from hpb.file import read_head, read_image
 from hpb.front.certificate import Certificate
 from hpb.front.faults import Wrong
-from hpb.front.files import Kept, look_at_files, of_change, of_log, of_record
+from hpb.front.files import Kept, look_at_files, of_change, of_log, of_record, read_by_all
 from hpb.front.limits import LIMITS, Limits
 from hpb.front.log import JOURNAL, STANDARD_ERROR, Journal, Log, Rotated, Sink, Stream
 from hpb.front.network import Address
+from hpb.front.plan import read_closing, read_plan
 from hpb.front.rights import AUCTIONEER, BIDDER, OBSERVER, Role
 from hpb.front.tokens import TokenFile
 from hpb.limits import NAME
@@ -36,11 +37,13 @@ LOG_LIMITS = {
 }
 TEXTS = ["file", "record", "tokens", "listen"]
 OPTIONAL_TEXTS = ["program", "certificate", "key"]
-FIELDS = {*TEXTS, *OPTIONAL_TEXTS, "port", "plain", "shared_network", "names", "limits", "board", "log"}
+FIELDS = {*TEXTS, *OPTIONAL_TEXTS, "port", "plain", "shared_network", "names", "limits", "board", "log", "rounds", "closing"}
 # Fields that can't change while a front runs; all others are read again at SIGHUP.
-FIXED = ["file", "record", "tokens", "program", "port", "shared_network", "host", "listen_port", "roles", "board", "log"]
+FIXED = ["file", "record", "tokens", "program", "port", "shared_network", "host", "listen_port", "roles", "board", "log", "plan", "closing"]
 # The kinds of log lines that strangers can cause.
 STRANGERS = ["connection", "token", "ended", "page"]
+# The fields of files that have bids of the open round.
+WITH_BIDS = {"file", "record", "log"}
 BOARD_FIELDS = {"listen", "names"}
 HOST_NAME = re.compile(r"[A-Za-z0-9-]{1,63}(\.[A-Za-z0-9-]{1,63})*")
 
@@ -109,9 +112,9 @@ class Config:
     """A configuration. Paths in it begin at its folder."""
 
     def __init__(self, path: str | os.PathLike[str]) -> None:
+        given = read_toml(path)
         # The name as it was given, with links: a link may lead to another file when the configuration is read again.
         self.path = os.path.abspath(path)
-        given = read_toml(path)
         for field in given:
             if field not in FIELDS:
                 raise Wrong(f"{field}: there is no such field")
@@ -124,7 +127,8 @@ class Config:
         self.port = whole(given["port"], LEAST_PORT, MOST_PORT, "port") if "port" in given else None
         self.limits = read_limits(table_of(given, "limits", is_needed=False))
         self.board = BoardPlace.read(table_of(given, "board")) if "board" in given else None
-        self.roles = read_roles(table_of(given, "names"))
+        self.plan = read_plan(table_of(given, "rounds", is_needed=False)) if "rounds" in given else None
+        self.closing, self.roles = read_closing(table_of(given, "closing", is_needed=False), read_roles(table_of(given, "names")), self.plan)
         self.certificate, self.key = (str(self.folder / more[field]) if field in more else None for field in OPTIONAL_TEXTS[1:])
         self.log = LogPlace.read(table_of(given, "log", is_needed=False), self.folder, f"{texts['record']}.log")
         self.look_at_transport(truth(given, "plain"))
@@ -157,6 +161,10 @@ class Config:
         if self.log.path:
             files.append(of_log(self.log.path, self.log.files))
         return files
+
+    def read_by_all(self) -> list[str]:
+        """The files with bids of the open round that every user may read."""
+        return read_by_all([kept for kept in self.files() if kept.field in WITH_BIDS])
 
     def record_name(self) -> str:
         """The name of the record's first file."""
@@ -211,7 +219,7 @@ def read_toml(path: str | os.PathLike[str]) -> Table:
         return tomllib.loads(read_regular(os.fspath(path)).decode())
     except OSError as fault:
         raise Wrong(f"{path}: {fault.strerror}") from None
-    except (tomllib.TOMLDecodeError, UnicodeDecodeError) as fault:
+    except ValueError as fault:  # It is no TOML or no UTF-8, or a number in it has more digits than Python reads.
         raise Wrong(f"{path}: {fault}") from None
     except RecursionError:
         raise Wrong(f"{path}: it is nested too deep") from None
@@ -240,8 +248,15 @@ def truth(given: Table, field: str) -> bool:
 
 def whole(value: object, least: int, most: int, where: str) -> int:
     if not isinstance(value, int) or isinstance(value, bool) or not least <= value <= most:
-        raise Wrong(f"{where}: {value!r} is no number from {least:,} to {most:,}")
+        raise Wrong(f"{where}: {shown(value)} is no number from {least:,} to {most:,}")
     return value
+
+
+def shown(value: object) -> str:
+    try:
+        return repr(value)
+    except ValueError:  # It has a number with more digits than Python writes.
+        return "what stands there"
 
 
 def read_address(text: str, where: str = "listen") -> tuple[str, int]:

@@ -3,8 +3,10 @@
 Rotation moves a log to `log.1`, a record goes on in `record.2`, and a token is added by way of `tokens.new`. So it isn't enough that the names
 in a configuration differ: none of them may be one that is made beside another, or lead to the same file.
 """
+import contextlib
 import os
 import re
+import stat
 from collections.abc import Callable, Iterator
 from dataclasses import dataclass
 
@@ -39,7 +41,7 @@ class Kept:
         folder, name = os.path.split(os.path.abspath(self.path))
         try:
             found = os.listdir(folder)
-        except OSError:
+        except (OSError, ValueError):  # A name with a NUL is no file's.
             return
         for one in found:
             if one.startswith(f"{name}.") and self.is_made(one[len(name) + 1 :]):
@@ -83,6 +85,16 @@ def look_beside(one: Kept, other: Kept) -> None:
     for made in other.made():
         if identities(made) and identities(made) == identities(one.path):
             raise Wrong(f"{one.field}: {one.path} is the same file as {made}, which is the name of a file that is made beside the {other.field}")
+
+
+def read_by_all(files: list[Kept]) -> list[str]:
+    """Those of these files, and of the files beside them, that every user may read."""
+    found = []
+    for path in (path for kept in files for path in (kept.path, *sorted(kept.made()))):
+        with contextlib.suppress(OSError):
+            if os.stat(path).st_mode & stat.S_IROTH:
+                found.append(path)
+    return found
 
 
 def identities(path: str) -> list[Identity]:

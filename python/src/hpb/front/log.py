@@ -3,20 +3,19 @@
 A thread writes the lines, so nobody waits for a disk or a terminal. Lines are left out if more of their kind come than may, or if they come
 faster than they can be written. A line of kind `left_out` counts them.
 """
-import contextlib
 import errno
 import json
 import os
-import queue
 import re
 import socket
-import threading
 import time
+from _thread import allocate_lock
 from collections.abc import Callable
 from dataclasses import dataclass, field
 from typing import Protocol
 
-from hpb.own_files import give_name, open_own
+from hpb.own_files import give_name, is_at, open_own
+from hpb.threads import Lines, Thread, keep
 
 Field = str | int | float | bool | None | list[str]
 
@@ -36,6 +35,8 @@ SAID_BY_OTHERS = ("line", "path")
 MAY_BE_TOKEN = re.compile(r"(?<![!-~])(?![a-z0-9_]{16}(?![!-~])|[0-9]{16,20}(?![!-~]))[!-~]{16,}")
 # Seconds between two lines of kind `left_out`, and between two warnings that nothing can be written.
 COUNT_SECONDS, WARN_SECONDS = 1.0, 60.0
+# Seconds until the next try after a failure for which there was no memory to count it.
+PAUSE = 0.05
 BURST_SECONDS = 2
 
 
@@ -76,7 +77,8 @@ class Journal:
 
 @dataclass
 class Rotated:
-    """A file, and older ones beside it: `front.log`, `front.log.1`, .. Together they have `files * most_bytes` bytes at most."""
+    """A file, and older ones beside it: `front.log`, `front.log.1`, .. Together they have `files * most_bytes` bytes at most. If another
+    program moves or removes the file, the next line begins a new one."""
 
     path: str
     most_bytes: int
@@ -84,12 +86,19 @@ class Rotated:
     stream: Stream | None = None
 
     def write(self, line: bytes) -> None:
+        if self.stream and not is_at(self.stream.descriptor, self.path):
+            self.close()
         stream = self.stream or self.open()
         length = os.fstat(stream.descriptor).st_size
         if length and length + len(line) > self.most_bytes:
             self.rotate()
             stream = self.open()
         stream.write(line)
+
+    def close(self) -> None:
+        if self.stream:
+            stream, self.stream = self.stream, None
+            os.close(stream.descriptor)
 
     def open(self) -> Stream:
         file = open_log(self.path)
@@ -109,9 +118,7 @@ class Rotated:
             os.unlink(names[free])
         for place in reversed(range(free)):
             give_name(names[place], names[place + 1])
-        if self.stream:
-            stream, self.stream = self.stream, None
-            os.close(stream.descriptor)
+        self.close()
 
 
 def open_log(path: str) -> int:
@@ -156,17 +163,18 @@ class Log:
     warn: Callable[[str], None] = lambda text: None
 
     def __post_init__(self) -> None:
-        self.lines: queue.Queue[bytes] = queue.Queue(MOST_WAITING)
-        self.lock = threading.Lock()
+        self.lines, self.lock = Lines(MOST_WAITING), allocate_lock()
         now = time.monotonic()
         self.buckets = {kind: Bucket(rate, BURST_SECONDS * rate, now) for kind, rate in self.per_second.items()}
         self.lost: dict[str, int] = {}
+        self.has_begun = False
         self.counted = self.warned = -WARN_SECONDS
-        self.writer = threading.Thread(target=self.keep_writing, name="log", daemon=True)
+        self.writer = Thread(lambda: keep(self.write_or_fail, PAUSE))
 
     def start(self) -> "Log":
         """Starts the thread. A RuntimeError says that the system has none."""
         self.writer.start()
+        self.has_begun = True
         return self
 
     def write(self, kind: str, **fields: Field) -> None:
@@ -175,27 +183,22 @@ class Log:
             bucket = self.buckets.get(kind)
             if bucket and not bucket.may(time.monotonic()):
                 return
-        try:
-            self.lines.put_nowait(line_of(kind, fields))
-        except queue.Full:
+        if not self.lines.add(line_of(kind, fields)):
             self.lose(kind)
 
     def lose(self, kind: str) -> None:
         with self.lock:
             self.lost[kind] = self.lost.get(kind, 0) + 1
 
-    def keep_writing(self) -> None:
-        while True:
-            # Whatever fails, the thread goes on: if it ended, nothing more would be written, and nobody would learn of it.
-            try:
-                self.write_next()
-            except Exception as fault:
-                self.fail(fault)
+    def write_or_fail(self) -> None:
+        try:
+            self.write_next()
+        except Exception as fault:
+            self.fail(fault)
 
     def write_next(self) -> None:
-        try:
-            line = self.lines.get(timeout=COUNT_SECONDS)
-        except queue.Empty:
+        line = self.lines.first(COUNT_SECONDS)
+        if line is None:
             self.count()
             return
         try:
@@ -203,16 +206,15 @@ class Log:
                 self.sink.write(line)
             self.count(is_last=not line)
         finally:
-            self.lines.task_done()
+            self.lines.drop()
 
     def fail(self, fault: Exception) -> None:
         """A log that can't be written stops no bidder."""
-        with contextlib.suppress(MemoryError):
-            self.lose("unwritten")
-            now = time.monotonic()
-            if now - self.warned > WARN_SECONDS:
-                self.warned = now
-                self.warn(f"the log can't be written: {says(fault)}")
+        self.lose("unwritten")
+        now = time.monotonic()
+        if now - self.warned > WARN_SECONDS:
+            self.warned = now
+            self.warn(f"the log can't be written: {says(fault)}")
 
     def count(self, is_last: bool = False) -> None:
         """Writes how many lines were left out: at the end, and in between at most once a second."""
@@ -235,9 +237,8 @@ class Log:
     def end(self, seconds: float) -> None:
         """Waits until all is written, at most so many seconds."""
         end = time.monotonic() + seconds
-        with contextlib.suppress(queue.Full):
-            self.lines.put_nowait(b"")
-        while self.writer.is_alive() and self.lines.unfinished_tasks and time.monotonic() < end:
+        self.lines.add(b"")
+        while self.has_begun and not self.writer.has_ended and not self.lines.is_empty() and time.monotonic() < end:
             time.sleep(0.01)
 
 

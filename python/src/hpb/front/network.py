@@ -15,7 +15,7 @@ from dataclasses import dataclass
 BACKLOG = 256
 CLONE_NEWUSER, CLONE_NEWNET = 0x10000000, 0x40000000
 LOOPBACK = b"lo"
-SIOCGIFFLAGS, SIOCSIFFLAGS, IFF_UP = 0x8913, 0x8914, 0x1
+SIOCGIFFLAGS, SIOCSIFFLAGS, IFF_UP, IFF_LOOPBACK = 0x8913, 0x8914, 0x1, 0x8
 # An interface's name of 16 bytes, its flags of 2, and the rest of the kernel's `struct ifreq`.
 INTERFACE = struct.Struct("16sh22x")
 SO_NETNS_COOKIE = 71
@@ -98,12 +98,13 @@ def given_socket(number: int) -> socket.socket:
 
 
 def enter_own(listeners: list[socket.socket]) -> None:
-    """Enters a network of its own, unless the process is in another network than the handed-in sockets already.
+    """Enters a network of its own. If the system refuses one, the process stays in a network that is apart already.
 
     It has to come before the first thread: the system gives a process of several threads no user namespace.
     """
-    if not is_apart(listeners):
-        unshare()
+    may_stay = is_apart(listeners)
+    if (number := unshare()) and not may_stay:
+        raise Refused(f"the system gives the front no network of its own: {os.strerror(number)}")
     try:
         bring_up_loopback()
     except OSError as fault:
@@ -111,10 +112,17 @@ def enter_own(listeners: list[socket.socket]) -> None:
 
 
 def is_apart(listeners: list[socket.socket]) -> bool:
-    """Whether all these sockets are of another network than the process's own, as with PrivateNetwork= of systemd."""
+    """Whether the process's network has a loopback interface alone, and all these sockets are of another one, as with PrivateNetwork= of
+    systemd."""
     with socket.socket() as probe:
         own = cookie_of(probe)
-    return bool(listeners) and own is not None and all(cookie_of(one) not in (None, own) for one in listeners)
+    are_elsewhere = bool(listeners) and own is not None and all(cookie_of(one) not in (None, own) for one in listeners)
+    return are_elsewhere and not reaches_others()
+
+
+def reaches_others() -> bool:
+    """Whether an interface is up besides the loopback. The system may make some in each network, which are down."""
+    return any(flags_of(name.encode()) & (IFF_UP | IFF_LOOPBACK) == IFF_UP for _, name in socket.if_nameindex())
 
 
 def cookie_of(one: socket.socket) -> bytes | None:
@@ -125,19 +133,21 @@ def cookie_of(one: socket.socket) -> bytes | None:
         return None
 
 
-def unshare() -> None:
-    """Enters a new network. If only root may have one, it enters a new user namespace too, in which this user keeps its own id."""
+def unshare() -> int:
+    """Enters a new network. If only root may have one, it enters a new user namespace too, in which this user keeps its own id. Returns 0,
+    or the number of the error if the system refuses that."""
     user, group = os.geteuid(), os.getegid()
     if not call_unshare(CLONE_NEWNET):
-        return
+        return 0
     if number := call_unshare(CLONE_NEWUSER | CLONE_NEWNET):
-        raise Refused(f"the system gives the front no network of its own: {os.strerror(number)}")
+        return number
     try:
         write("/proc/self/setgroups", "deny")
         write("/proc/self/uid_map", f"{user} {user} 1")
         write("/proc/self/gid_map", f"{group} {group} 1")
     except OSError as fault:
         raise Refused(f"the system gives the front no user namespace of its own: {fault.strerror or fault}") from None
+    return 0
 
 
 def call_unshare(flags: int) -> int:
@@ -153,6 +163,12 @@ def write(path: str, text: str) -> None:
 
 def bring_up_loopback() -> None:
     with socket.socket(socket.AF_INET, socket.SOCK_DGRAM) as control:
-        _, flags = INTERFACE.unpack(fcntl.ioctl(control, SIOCGIFFLAGS, INTERFACE.pack(LOOPBACK, 0)))
+        flags = flags_of(LOOPBACK)
         if not flags & IFF_UP:
             fcntl.ioctl(control, SIOCSIFFLAGS, INTERFACE.pack(LOOPBACK, flags | IFF_UP))
+
+
+def flags_of(interface: bytes) -> int:
+    with socket.socket(socket.AF_INET, socket.SOCK_DGRAM) as control:
+        flags: int = INTERFACE.unpack(fcntl.ioctl(control, SIOCGIFFLAGS, INTERFACE.pack(interface, 0)))[1]
+    return flags

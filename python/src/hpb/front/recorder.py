@@ -1,9 +1,7 @@
 """The record of a front on its disk: threads of their own write the entries, in the order in which they came (docs/FRONT.md)."""
 import asyncio
 import os
-import threading
 from collections.abc import Callable
-from concurrent.futures import ThreadPoolExecutor
 from typing import Any, Generic, Protocol, TypeVar
 
 from hpb.front.core.effects import EmptyBeside, FreeBeside, PutBeside, Write
@@ -12,11 +10,13 @@ from hpb.front.core.ledger import WHERE_THE_AUDIT_ENDS
 from hpb.front.faults import Stops
 from hpb.record import Damaged, Entry, InTheWay, InUse, New, Place, RecordFile, State, WrongSegment, time_now
 from hpb.record.asked import Asked
+from hpb.record.kept import NotKept
+from hpb.threads import Worker
 
 # One write takes at most so many entries, and one sync at most so many commands beside the record.
 MOST_AT_ONCE = 128
-# How long a result is waited for until it is looked whether the thread has lost it, in seconds.
-LOOK_SECONDS = 1.0
+# Seconds between two looks whether the record is still as it was written.
+KEPT_SECONDS = 2.0
 
 Item = TypeVar("Item")
 Beside = PutBeside | FreeBeside | EmptyBeside
@@ -39,6 +39,7 @@ class Record(Protocol):
     @property
     def asked(self) -> Places: ...
     def write(self, entries: list[New]) -> None: ...
+    def look(self) -> None: ...
 
 
 def open_record(path: str, definition: Any, may_set_aside: bool) -> tuple[RecordFile, Entry | None]:
@@ -81,7 +82,11 @@ def opened(record: Record) -> RecordOpened:
     state = record.state
     left = [Left(name, line, number) for number, (name, line) in sorted(state.open.items())]
     left += [Left(asked.name, asked.line) for asked in record.asked.left()]
-    return RecordOpened(state.count, dict(state.used), state.foreign, tuple(left), record.place)
+    lines = None if state.lines is None else tuple(state.lines)
+    return RecordOpened(
+        state.count, dict(state.used), state.foreign, tuple(left), record.place, lines, dict(state.clock), tuple(state.news), dict(state.told),
+        dict(state.read),
+    )
 
 
 class Writer(Generic[Item]):
@@ -89,11 +94,9 @@ class Writer(Generic[Item]):
     posted."""
 
     def __init__(self, call: Callable[[list[Item]], Event | None], post: Callable[[Event], None]) -> None:
-        self.call, self.post = call, post
+        self.post, self.worker = post, Worker(call)
         self.waiting: list[Item] = []
         self.writing: asyncio.Task[None] | None = None
-        self.name = f"writer-{id(self)}"
-        self.thread = ThreadPoolExecutor(1, self.name)
 
     def add(self, item: Item) -> None:
         self.waiting.append(item)
@@ -101,36 +104,22 @@ class Writer(Generic[Item]):
             self.writing = asyncio.create_task(self.write())
 
     async def write(self) -> None:
+        # Any failure, even a lack of memory, ends the front with a message: without the record nobody can be answered.
+        try:
+            await self.write_waiting()
+        except NotKept as fault:
+            self.post(Failed(str(fault)))
+        except Exception as fault:
+            self.post(Failed(f"the record can't be written: {fault if isinstance(fault, (OSError, Damaged)) else repr(fault)}"))
+
+    async def write_waiting(self) -> None:
         loop = asyncio.get_running_loop()
         while self.waiting:
             items, self.waiting = self.waiting[:MOST_AT_ONCE], self.waiting[MOST_AT_ONCE:]
-            # Any failure, even a lack of memory, ends the front with a message: without the record nobody can be answered.
-            try:
-                event = await self.made(items)
-            except Exception as fault:
-                self.post(Failed(f"the record can't be written: {fault if isinstance(fault, (OSError, Damaged)) else repr(fault)}"))
-                return
-            if event:
+            if event := await self.worker.do(items):
                 # It is called later, so that a failure of it isn't taken for one of the record.
                 loop.call_soon(self.post, event)
         self.writing = None
-
-    async def made(self, items: list[Item]) -> Event | None:
-        """The event of the call. If memory is refused to the thread when it hands over the result, the result or the thread is lost: that is
-        noticed after a second. MemoryError if it was the thread."""
-        result = self.thread.submit(self.call, items)
-        handed_over = asyncio.wrap_future(result)
-        # A failure is taken from the result itself.
-        handed_over.add_done_callback(lambda ended: ended.cancelled() or ended.exception())
-        while not (handed_over.done() or result.done()):
-            await asyncio.wait({handed_over}, timeout=LOOK_SECONDS)
-            if not result.done() and not self.is_alive():
-                raise MemoryError("the thread that writes has ended")
-        return result.result()
-
-    def is_alive(self) -> bool:
-        """Whether the thread runs."""
-        return any(thread.name.startswith(self.name) for thread in threading.enumerate())
 
 
 class Recorder:
@@ -149,8 +138,23 @@ class Recorder:
         """Writes a command beside the record, or empties places there."""
         self.beside.add(effect)
 
-    def write_all(self, entries: list[New]) -> Event:
-        """Runs in the thread of entries."""
+    async def keep_looking(self) -> None:
+        """Looks every few seconds whether the record is still as it was written, also while no entry comes. A Stops says what another program
+        did to it. If memory is refused, the next look is as good."""
+        while True:
+            await asyncio.sleep(KEPT_SECONDS)
+            try:
+                await self.entries.worker.do([])
+            except (NotKept, OSError) as fault:
+                raise Stops(str(fault)) from None
+            except MemoryError:
+                pass
+
+    def write_all(self, entries: list[New]) -> Event | None:
+        """Runs in the thread of entries. Without an entry it only looks at the record."""
+        if not entries:
+            self.record.look()
+            return None
         self.record.write(entries)
         return Synced(len(entries), self.record.place)
 

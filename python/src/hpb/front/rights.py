@@ -1,4 +1,5 @@
 """The lines that a front takes, and who may send which (docs/FRONT.md)."""
+import re
 from typing import NamedTuple
 
 from hpb.rules.tree import Tree
@@ -8,14 +9,24 @@ AUCTIONEER, BIDDER, OBSERVER = "auctioneer", "bidder", "observer"
 WORDS = {b"BID": 5, b"WAIVE": 3, b"CLOSE": 2, b"STAGE": 2, b"SHOW": 1, b"NODE": 2, b"WHO": 2}
 COMMANDS = {b"BID", b"WAIVE", b"CLOSE", b"STAGE"}
 NAMES_A_BIDDER = {b"BID", b"WAIVE", b"WHO"}
-ALLOWED = {
-    AUCTIONEER: {b"CLOSE", b"STAGE", b"SHOW", b"NODE", b"WHO"},
-    BIDDER: {b"BID", b"WAIVE", b"SHOW", b"NODE", b"WHO"},
-    OBSERVER: {b"SHOW", b"NODE"},
+# Lines that the front answers by itself: how many words each has at least and at most (docs/ROUNDS.md).
+OWN_WORDS = {
+    b"OPEN": (4, 5), b"EXTEND": (3, 3), b"PAUSE": (1, 1), b"RESUME": (1, 1), b"SCHEDULE": (1, 1), b"EVENT": (1, 2), b"READ": (2, 2),
+    b"SAY": (3, 128), b"PREVIEW": (1, 2), b"AGREE": (2, 2),
 }
-TOKEN = b"TOKEN "
+EVERYBODY = {b"SHOW", b"NODE", b"SCHEDULE", b"EVENT", b"READ"}
+ALLOWED = {
+    AUCTIONEER: {b"CLOSE", b"STAGE", b"WHO", b"OPEN", b"EXTEND", b"PAUSE", b"RESUME", b"SAY", b"PREVIEW", *EVERYBODY},
+    BIDDER: {b"BID", b"WAIVE", b"WHO", *EVERYBODY},
+    OBSERVER: EVERYBODY,
+}
+TOKEN, IN, ENDING = b"TOKEN ", b"IN", b"ENDING"
 # The front's own refusals: the words after `ERR front`.
-FORM, RIGHTS, LONG, UNKNOWN, MANY, IDLE = REFUSALS = ("line", "rights", "long", "token", "many", "idle")
+FORM, RIGHTS, LONG, UNKNOWN, MANY, IDLE, *OF_ROUNDS = REFUSALS = (
+    "line", "rights", "long", "token", "many", "idle", "closed", "round", "clock", "end", "second", "unknown",
+)
+CLOSED, ROUND, CLOCK, END, SECOND, NOT_KNOWN = OF_ROUNDS
+WHOLE = re.compile(rb"[1-9][0-9]{0,6}")
 
 
 def refused(word: str) -> bytes:
@@ -29,14 +40,25 @@ def welcome(name: str) -> bytes:
 
 
 class Role(NamedTuple):
-    """The rights of a name. `bidders` are those for whom a bidder may bid."""
+    """The rights of a name. `bidders` are those for whom a bidder may bid. `agrees` says whether it may agree to a close that ends the
+    auction."""
 
     kind: str
     bidders: tuple[str, ...] = ()
+    agrees: bool = False
 
     def refusal(self, line: bytes) -> str | None:
         """The word by which the front refuses a line, or None if it takes it."""
         words = line.split(b" ")
+        if words[0] == IN:
+            # Behind the number of its round stands a bid or a waiver.
+            if len(words) < 3 or not WHOLE.fullmatch(words[1]) or words[2] not in (b"BID", b"WAIVE"):
+                return FORM
+            words = words[2:]
+        elif words[0] in OWN_WORDS:
+            return self.refusal_of_own(line, words)
+        elif words[0] == b"CLOSE" and len(words) == 3 and words[2] == ENDING:
+            words = words[:2]
         if len(words) != WORDS.get(words[0]) or b"" in words:
             return FORM
         if words[0] not in ALLOWED[self.kind]:
@@ -44,6 +66,13 @@ class Role(NamedTuple):
         if self.kind == BIDDER and words[0] in NAMES_A_BIDDER and words[1].decode("latin-1") not in self.bidders:
             return RIGHTS
         return None
+
+    def refusal_of_own(self, line: bytes, words: list[bytes]) -> str | None:
+        """The same, for a line that the front answers by itself."""
+        least, most = OWN_WORDS[words[0]]
+        if not least <= len(words) <= most or b"" in words or any(byte < 32 or byte == 127 for byte in line):
+            return FORM
+        return None if self.agrees and words[0] == b"AGREE" or words[0] in ALLOWED[self.kind] else RIGHTS
 
     def seen(self, tree: Tree) -> list[str]:
         """The bidders of a definition about which this role may ask WHO."""
@@ -62,7 +91,24 @@ def role_of(shown: list[str] | str) -> Role:
 
 def is_command(line: bytes) -> bool:
     """Whether a line would change the auction if it were accepted."""
-    return line.split(b" ", 1)[0] in COMMANDS
+    return line.split(b" ", 1)[0] in COMMANDS or line.startswith(b"IN ")
+
+
+def is_own(line: bytes) -> bool:
+    """Whether the front answers a line by itself."""
+    return line.split(b" ", 1)[0] in OWN_WORDS
+
+
+def is_close(line: bytes) -> bool:
+    """Whether a line closes a round."""
+    return line.startswith(b"CLOSE ")
+
+
+def for_server(line: bytes) -> bytes:
+    """A command as the server gets it: without the number of its round, and without the word that it may end the auction."""
+    if line.startswith(b"IN "):
+        return line.split(b" ", 2)[2]
+    return line.removesuffix(b" " + ENDING) if is_close(line) and line.count(b" ") == 2 else line
 
 
 def sender_and_ticket(line: bytes) -> tuple[str | None, int]:

@@ -3,11 +3,12 @@ import asyncio
 import resource
 import socket
 from argparse import Namespace
-from collections.abc import Coroutine
+from collections.abc import Callable, Coroutine
 from typing import Any
 
+from hpb.front import clock
 from hpb.front.board import Board
-from hpb.front.clients import Clients
+from hpb.front.clients import MOST_CONNECTIONS, Clients
 from hpb.front.config import Config
 from hpb.front.core import Setting, effects, events, new_front
 from hpb.front.faults import Stops
@@ -18,6 +19,7 @@ from hpb.front.shell import Shell, end_at_once, fault_says
 from hpb.front.terms import Reload, Terms
 from hpb.rules.tree import Tree
 from hpb.rules.writing import fields_of
+from hpb.threads import in_thread
 
 # Seconds between two looks at everything that waits for time. If the system didn't wake the loop once, it is awake again by then.
 TICK_SECONDS = 0.5
@@ -38,7 +40,8 @@ class Running:
         host, port = sockets[0].getsockname()[:2]
         setting = Setting(
             tree, config.roles, config.sessions(), has_board=config.board is not None, starts_server=config.port is None,
-            may_be_foreign=shell.given.foreign, record=config.record_name(), address=f"{host} {port}",
+            may_be_foreign=shell.given.foreign, record=config.record_name(), address=f"{host} {port}", plan=config.plan,
+            closing=config.closing,
         )
         self.machine = Machine(new_front(setting, terms.limits, terms.tokens, loop.time()), loop.time)
         post = self.machine.post
@@ -68,6 +71,7 @@ class Running:
         loop = asyncio.get_running_loop()
         loop.set_exception_handler(self.take_fault)
         self.begin(self.keep_ticking())
+        self.shell.teller.lost = self.lose_line
         self.shell.watch.attach(loop, lambda: self.machine.post(events.Stop()), lambda: self.reload())
         self.allow_descriptors()
         self.begin(self.open_record())
@@ -81,7 +85,7 @@ class Running:
     async def open_record(self) -> None:
         """A thread waits for it, because its disk may hang."""
         given, definition = self.shell.given, fields_of(self.tree.definition)
-        record, torn = await asyncio.to_thread(open_record, self.config.record, definition, given.set_aside)
+        record, torn = await in_thread(lambda: open_record(self.config.record, definition, given.set_aside))
         if torn:
             self.shell.teller.say(f"the record's end was torn: {torn['bytes']} bytes are set aside as {torn['aside']}")
         recorder = Recorder(record, self.machine.post)
@@ -89,7 +93,8 @@ class Running:
             effects.Write: recorder.write,
             effects.PutBeside: recorder.put, effects.FreeBeside: recorder.put, effects.EmptyBeside: recorder.put,
         }
-        self.machine.post(await asyncio.to_thread(opened, record))
+        self.begin(recorder.keep_looking())
+        self.machine.post(await in_thread(lambda: opened(record)))
 
     async def leave(self) -> None:
         """Ends everything: no task goes on, and the server and the page are gone, if the system lets them end."""
@@ -125,8 +130,14 @@ class Running:
         self.finish(why)
 
     def fail_from_thread(self, why: str) -> None:
+        self.call_from_thread(self.fail, why)
+
+    def lose_line(self, line: str) -> None:
+        self.call_from_thread(self.machine.post, events.Unpublished(line))
+
+    def call_from_thread(self, call: Callable[[Any], None], argument: object) -> None:
         try:
-            self.finished.get_loop().call_soon_threadsafe(self.fail, why)
+            self.finished.get_loop().call_soon_threadsafe(call, argument)
         except Exception:  # Nothing is sure to work any more; the front mustn't stay as it is.
             end_at_once()
 
@@ -145,10 +156,15 @@ class Running:
     async def keep_ticking(self) -> None:
         while True:
             await asyncio.sleep(TICK_SECONDS)
-            self.machine.post(events.Tick())
+            self.tick()
 
     def wake(self, effect: effects.Wake) -> None:
-        self.finished.get_loop().call_later(effect.seconds, self.machine.post, events.Tick())
+        self.finished.get_loop().call_later(effect.seconds, self.tick)
+
+    def tick(self) -> None:
+        """Time has passed: the front gets a reading of the clocks, too."""
+        self.machine.post(clock.read())
+        self.machine.post(events.Tick())
 
     # Taking connections, and the terms in force.
 
@@ -176,10 +192,13 @@ class Running:
     def allow_descriptors(self) -> None:
         """Raises the limit of descriptors to what the front's own limits need, if the system lets it."""
         limits, names = self.reloading.terms.limits, len(self.config.roles)
-        wanted = names * limits.connections + limits.unknown_connections + 2 * self.config.places() + MORE_DESCRIPTORS
+        own = 2 * self.config.places() + MORE_DESCRIPTORS
+        wanted = names * limits.connections + limits.unknown_connections + own
         soft, hard = resource.getrlimit(resource.RLIMIT_NOFILE)
         most = hard if hard != resource.RLIM_INFINITY else max(soft, wanted)
         if soft < wanted:
             resource.setrlimit(resource.RLIMIT_NOFILE, (min(wanted, most), hard))
+        # Clients take no descriptor that record, server, page and log may need.
+        self.clients.most = max(1, most - own) if most < wanted else MOST_CONNECTIONS
         if most < wanted:
             self.shell.teller.say(f"as many connections as the limits allow need {wanted} descriptors, and there may be {most} (ulimit -n)")

@@ -1,8 +1,9 @@
 """A front's process: its arguments, its output, its log, signals, sockets, and changes to the file of tokens (docs/FRONT.md)."""
 import argparse
+import asyncio
 import os
 import socket
-from typing import IO, NoReturn
+from typing import IO, Any, NoReturn
 
 from hpb.front.config import Config
 from hpb.front.faults import Stops
@@ -27,8 +28,18 @@ def fault_says(fault: BaseException) -> str:
 
 def end_at_once() -> NoReturn:
     """Ends the process at once, by calls that need hardly any memory."""
-    cry(b"front: a fault of the front, for which there is no memory left to say more\n")
-    os._exit(1)
+    try:
+        cry(b"front: a fault of the front, for which there is no memory left to say more\n")
+    finally:
+        os._exit(1)
+
+
+def end_by_fault(_: asyncio.AbstractEventLoop, context: dict[str, Any]) -> None:
+    """Takes a fault of an event loop in which no front runs yet. asyncio would only log it, and the front would never begin."""
+    try:
+        cry(f"front: {fault_says(context['exception'])}\n".encode())
+    finally:
+        os._exit(1)
 
 
 class Shell:

@@ -52,7 +52,10 @@ def configs_in(words: Sequence[str]) -> Iterator[str]:
 
 def files_of(config: str) -> Iterator[tuple[str, str]]:
     """Each file that a configuration names, and the names of the files made beside it, as far as the configuration can be read."""
-    path = pathlib.Path(config).resolve()
+    try:
+        path = pathlib.Path(os.path.realpath(config))
+    except OSError:  # The folder in which it was started is gone.
+        return
     yield "configuration", str(path)
     for kept in kept_in(path):
         for name in (kept.path, *kept.made()):

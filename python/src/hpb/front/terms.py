@@ -10,6 +10,10 @@ from hpb.front.faults import Wrong
 from hpb.front.limits import Limits
 from hpb.front.log import Log
 from hpb.front.tokens import Tokens
+from hpb.threads import in_thread
+
+# Faults whose text is said. That of others may hold secrets, such as a token.
+SAID = (Wrong, OSError, RuntimeError, MemoryError)
 
 
 @dataclass(frozen=True)
@@ -24,7 +28,14 @@ class Terms:
 def read_terms(path: str, in_force: Config | None = None) -> tuple[Config, Terms]:
     """Reads a configuration and its terms. If there is one in force, its names and its file of tokens stay."""
     config = Config(path)
-    return config, Terms(config.limits, (in_force or config).token_file().tokens(), config.read_certificate())
+    known = in_force or config
+    try:
+        tokens = known.token_file().tokens()
+    except Wrong as fault:
+        if known.roles.keys() == config.roles.keys():
+            raise
+        raise Wrong(f"{fault}. The names are those with which the front was started: other names count from the next start on") from None
+    return config, Terms(config.limits, tokens, config.read_certificate())
 
 
 class Reload:
@@ -39,12 +50,15 @@ class Reload:
         the old terms stay in force."""
         async with self.in_turn:
             try:
-                config, terms = await asyncio.to_thread(read_terms, self.config.path, self.config)
-            except (Wrong, OSError, RuntimeError, MemoryError) as fault:
-                self.say(f"the files that were read again are refused, and the old tokens, certificate and limits stay in force: {fault}")
-                self.log.write("reload", outcome="refused", why=str(fault))
+                config, terms = await in_thread(lambda: read_terms(self.config.path, self.config))
+            except Exception as fault:  # Whatever is wrong with them, the front goes on as before.
+                self.refuse(str(fault) if isinstance(fault, SAID) else f"a fault of the front: {type(fault).__name__}")
                 return
             self.change_to(self.config.differs_in(config), terms)
+
+    def refuse(self, why: str) -> None:
+        self.say(f"the files that were read again are refused, and the old tokens, certificate and limits stay in force: {why}")
+        self.log.write("reload", outcome="refused", why=why)
 
     def change_to(self, differs: list[str], terms: Terms) -> None:
         """Puts new terms in force. `differs` are changed fields that stay as they were."""

@@ -6,17 +6,25 @@ is limited, for each address and for all together. The rest of TLS is cheap, and
 import asyncio
 import collections
 import contextlib
+import contextvars
 import os
 import queue
 import ssl
-import threading
 import time
+from _thread import get_native_id
 from collections.abc import Callable
 from typing import Protocol
+
+from hpb.threads import Thread
 
 # The client's part of a handshake has some hundred bytes, or a few thousand with the data that it may send along.
 MOST_HANDSHAKE = 65_536
 MOST_READ = 65_536
+# So many records of a client may carry nothing to read, as a change of keys does. Each costs as much as a line, and no limit of lines holds
+# for it. What comes is decrypted in pieces of so many bytes, so that such records are noticed early.
+MOST_SILENT, PIECE = 32, 4_096
+# A record's header: its kind, a version of two bytes, and the length of the rest.
+HEADER_BYTES, LENGTH_AT = 5, 3
 # By so much the thread's priority is lower than that of the others (nice).
 NICE = 10
 # So many seconds' worth of handshakes may come at once.
@@ -40,11 +48,11 @@ class Handshakes:
 
     def __init__(self, per_second: float, fail: Callable[[str], None]) -> None:
         self.per_second, self.fail = per_second, fail
-        self.loop = asyncio.get_running_loop()
+        self.loop, self.context = asyncio.get_running_loop(), contextvars.copy_context()
         self.waiting: collections.OrderedDict[str, collections.deque[Tls]] = collections.OrderedDict()
         self.at_work, self.next_at = False, 0.0
         self.steps: queue.SimpleQueue[Tls] = queue.SimpleQueue()
-        self.thread = threading.Thread(target=self.keep_working, name="handshakes", daemon=True)
+        self.thread = Thread(self.keep_working)
 
     def start(self) -> None:
         """A RuntimeError says that the system has no thread."""
@@ -86,16 +94,21 @@ class Handshakes:
         return one
 
     def keep_working(self) -> None:
-        # It gives way to the other threads, as far as the system allows that.
-        with contextlib.suppress(OSError):
-            os.setpriority(os.PRIO_PROCESS, threading.get_native_id(), NICE)
-        while True:
-            # Any failure is reported to the front: without this thread nobody is let in any more.
-            try:
+        """Any failure ends the front: without this thread nobody is let in any more."""
+        try:
+            self.give_way()
+            while True:
                 one = self.steps.get()
-                self.loop.call_soon_threadsafe(self.done, one, one.step())
-            except Exception as fault:
-                self.fail(f"a fault in a handshake: {fault!r}")
+                self.loop.call_soon_threadsafe(self.done, one, one.step(), context=self.context)
+        except Exception as fault:
+            self.fail(f"a fault in a handshake: {fault!r}")
+
+    def give_way(self) -> None:
+        """Other threads come first, as far as the system allows that."""
+        try:
+            os.setpriority(os.PRIO_PROCESS, get_native_id(), NICE)
+        except OSError:
+            pass
 
     def done(self, one: "Tls", outcome: "Outcome") -> None:
         self.at_work = False
@@ -112,6 +125,32 @@ class Outcome:
         self.is_up, self.fault = is_up, fault
 
 
+class Records:
+    """Counts the records of TLS in the bytes that a client sends, which may come in any pieces."""
+
+    def __init__(self) -> None:
+        # The header as far as it has come, and how many bytes of the record behind it are still to come.
+        self.header, self.left = bytearray(), 0
+
+    def count(self, data: bytes) -> int:
+        """How many records end within these bytes."""
+        ended = at = 0
+        while at < len(data):
+            if self.left:
+                taken = min(self.left, len(data) - at)
+                self.left -= taken
+            else:
+                taken = min(HEADER_BYTES - len(self.header), len(data) - at)
+                self.header += data[at : at + taken]
+                if len(self.header) < HEADER_BYTES:
+                    break
+                self.left = int.from_bytes(self.header[LENGTH_AT:], "big")
+                self.header.clear()
+            at += taken
+            ended += not self.left
+        return ended
+
+
 class Tls(asyncio.Protocol):
     """TLS between a connection's transport and the protocol that reads and writes in clear. For that protocol, it is the transport."""
 
@@ -122,6 +161,8 @@ class Tls(asyncio.Protocol):
         self.transport: asyncio.Transport | None = None
         # The bytes that came during the handshake and aren't decrypted yet; and whether a step of it is being done.
         self.raw, self.is_busy, self.is_up, self.steps = bytearray(), False, False, 0
+        # How many records had nothing to read, since the handshake.
+        self.records, self.silent = Records(), 0
         self.began = time.monotonic()
 
     # Calls of the transport.
@@ -141,9 +182,10 @@ class Tls(asyncio.Protocol):
 
     def data_received(self, data: bytes) -> None:
         if self.is_up:
-            self.incoming.write(data)
-            self.read()
+            for at in range(0, len(data), PIECE):
+                self.take_piece(data[at : at + PIECE])
             return
+        self.records.count(data)
         self.raw += data
         if len(self.raw) > MOST_HANDSHAKE:
             self.end_badly("its handshake is too long")
@@ -202,10 +244,21 @@ class Tls(asyncio.Protocol):
 
     # In clear.
 
+    def take_piece(self, data: bytes) -> None:
+        if self.is_closing():
+            return
+        self.incoming.write(data)
+        self.silent += self.records.count(data)
+        self.read()
+        if self.silent > MOST_SILENT:
+            self.end_badly("too many records with nothing to read")
+
     def read(self) -> None:
         """Hands on what has come."""
         try:
             while self.transport and not self.transport.is_closing() and (part := self.object.read(MOST_READ)):
+                # Those of the handshake's last bytes weren't counted.
+                self.silent = max(0, self.silent - 1)
                 self.inner.data_received(part)
         except ssl.SSLWantReadError:
             pass

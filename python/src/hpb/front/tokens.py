@@ -13,6 +13,7 @@ from hpb.front.change import Busy, InTheWay, NewFile, changing
 from hpb.front.faults import Wrong
 
 TOKEN = re.compile(r"[!-~]{16,128}")
+LEAST_TOKEN = 16
 # The two forms in a line: a token's digest, or the word for a name that has no token on purpose.
 DIGEST = re.compile(r"sha256:([0-9a-f]{64})")
 NONE = "-"
@@ -107,7 +108,7 @@ class TokenFile:
 
     def make(self) -> None:
         """Makes a new file with a token for each name."""
-        with self.change() as new:
+        with self.change(self.path) as new:
             new.write("".join(f"{name} {new_token()}\n" for name in self.names))
             new.take_free_place()
 
@@ -120,14 +121,14 @@ class TokenFile:
             raise Wrong(f"tokens: {name} is no name of the configuration")
         text = new_token()
         token = Token(name, digest_of(text.encode()))
-        with self.change() as new:
+        with self.change(self.real_path) as new:
             kept = [line for line in self.lines() if line.split() != [name, NONE]]
             self.replace(new, [*kept, f"{name} sha256:{token.digest.hex()}"])
         return token, text
 
     def revoke(self, id: str) -> Token:
         """Removes the token with this id. If it was the last one of its name, the file says that the name has none."""
-        with self.change() as new:
+        with self.change(self.real_path) as new:
             lines = self.lines()
             token = self.token_of(id, lines)
             kept = [line for line in lines if not is_entry(line) or not has_digest(line, token.digest)]
@@ -154,12 +155,17 @@ class TokenFile:
         new.write("".join(f"{line}\n" for line in lines), os.stat(self.path))
         new.take_place()
 
+    @property
+    def real_path(self) -> str:
+        """The file to which a link leads: a change replaces that one, and the link stays."""
+        return os.path.realpath(self.path)
+
     @contextlib.contextmanager
-    def change(self) -> Iterator[NewFile]:
-        """The new file of a change. Read the old file within it, because nobody else changes the file meanwhile. A Wrong says why no change
+    def change(self, path: str) -> Iterator[NewFile]:
+        """The new file of a change at this path. Read the old file within it, because nobody else changes the file meanwhile. A Wrong says why no change
         is possible."""
         try:
-            with changing(self.path, self.is_rest) as new:
+            with changing(path, self.is_rest) as new:
                 yield new
         except (Busy, InTheWay) as fault:
             raise Wrong(f"tokens: {fault}") from None

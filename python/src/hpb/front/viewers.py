@@ -8,11 +8,11 @@ front has put the parts of the configuration CONFIG, of the tokens and of the ce
 Once the page can be opened, it writes `BOARD` and the page's address, and then a line of JSON for each request. It ends when the front
 does. docs/BOARD.md says who sees what.
 """
+import faulthandler
 import os
 import signal
 import socket
 import sys
-import threading
 
 from hpb.front.faults import Wrong
 from hpb.front.given import Given, read, read_all
@@ -22,6 +22,8 @@ from hpb.pages.server import Server
 from hpb.pages.view import State, View
 from hpb.pages.walls import Known, Wall
 from hpb.refusals import HpbError, says
+from hpb.streams import STANDARD_ERROR
+from hpb.threads import Thread
 
 # By so much the page's priority is lower than the front's (nice): viewers wait, and bidders don't.
 NICE = 5
@@ -63,7 +65,8 @@ def end(text: object) -> None:
 
 def serve(given: Given, listener: socket.socket) -> None:
     """Serves the page until the process ends."""
-    follower = Follower(given.tree, list(given.tree.bidders), front_connection, lambda view: guests.hang(view))
+    bidders, names = list(given.tree.bidders), list(given.roles)
+    follower = Follower(given.tree, bidders, front_connection, lambda view: guests.hang(view), names=names)
     guests = known_of(given, follower.view)
     os.nice(NICE)
     # The front puts these lines into its log.
@@ -74,7 +77,7 @@ def serve(given: Given, listener: socket.socket) -> None:
 
     context = given.certificate.context if given.certificate else None
     with Server(("", 0), given.host_names, guests, context, listener, note) as server:
-        threading.Thread(target=followed, args=(follower,), daemon=True).start()
+        Thread(lambda: followed(follower)).start()
         print(f"BOARD {server.url()}", flush=True)
         server.serve_forever()
 
@@ -83,6 +86,8 @@ def main() -> int:
     """Reads the words, and returns the status."""
     signal.signal(signal.SIGTERM, lambda *_: sys.exit(0))
     signal.signal(signal.SIGINT, signal.SIG_IGN)
+    # As in the front: a library of C may end by a signal.
+    faulthandler.enable(STANDARD_ERROR)
     if len(sys.argv) != 4 or not all(word.isdecimal() for word in sys.argv[2:]):
         print(__doc__, end="")
         return 0 if sys.argv[1:] in (["-h"], ["--help"]) else 2

@@ -4,14 +4,16 @@ Two threads do nothing else: one takes signals, and the other ends the process i
 if a disk, a program that doesn't start or a lack of memory holds it up.
 """
 import asyncio
-import contextlib
+import contextvars
 import os
 import signal
-import threading
 import time
+from _signal import sigwait  # type: ignore[import]
+from _thread import allocate_lock
 from collections.abc import Callable
 
 from hpb.front.words import cry
+from hpb.threads import Signal, Thread
 
 STOPS = (signal.SIGTERM, signal.SIGINT)
 SIGNALS = {*STOPS, signal.SIGHUP}
@@ -19,7 +21,6 @@ SIGNALS = {*STOPS, signal.SIGHUP}
 END_SECONDS = 9.5
 FAILED = 1
 PAUSE = 0.05
-ATTEMPTS = 20
 
 
 def hold_signals() -> None:
@@ -42,11 +43,13 @@ class Watch:
     """
 
     def __init__(self) -> None:
-        self.is_told, self.is_reload_told, self.armed, self.lock = False, False, threading.Event(), threading.Lock()
+        self.is_told, self.is_reload_told, self.armed, self.lock = False, False, Signal(), allocate_lock()
+        # A call from a thread that needs a context of its own asks for memory.
+        self.context = contextvars.copy_context()
         self.loop: asyncio.AbstractEventLoop | None = None
         self.stop: Callable[[], None] = lambda: None
         self.reload: Callable[[], None] = lambda: None
-        self.threads = [threading.Thread(target=target, daemon=True) for target in (self.take_signals, self.keep_limit)]
+        self.threads = [Thread(target) for target in (self.take_signals, self.keep_limit)]
 
     def start(self) -> None:
         """A RuntimeError says that the system has no threads."""
@@ -63,35 +66,53 @@ class Watch:
                 reload()
 
     def take_signals(self) -> None:
+        """Takes one signal after the other. Whatever fails, the thread goes on, and has the signal that it took: without it, only SIGKILL
+        could end the front."""
+        number, has_failed = 0, False
         while True:
-            # Whatever fails, the thread goes on: without it, only SIGKILL could end the front.
-            with contextlib.suppress(Exception):
-                self.take(signal.sigwait(SIGNALS))
+            try:
+                if has_failed:
+                    time.sleep(PAUSE)
+                # `signal.sigwait` asks for memory when the signal is taken already.
+                number = number or sigwait(SIGNALS)
+                self.take(number)
+                number, has_failed = 0, False
+            except Exception:
+                has_failed = True
 
     def take(self, number: int) -> None:
         if number in STOPS:
             self.is_told = True
-            self.armed.set()
-        for _ in range(ATTEMPTS):
-            # A lack of memory may pass. A closed loop needs no signals.
-            try:
-                self.call(number)
-                return
-            except MemoryError:
-                time.sleep(PAUSE)
+            self.arm()
+        # A closed loop needs no signals.
+        try:
+            self.call(number)
+        except RuntimeError:
+            pass
 
     def call(self, number: int) -> None:
         with self.lock:
             self.is_reload_told = self.is_reload_told or number not in STOPS
             if self.loop:
-                self.loop.call_soon_threadsafe(self.stop if number in STOPS else self.reload)
+                self.loop.call_soon_threadsafe(self.stop if number in STOPS else self.reload, context=self.context)
 
     def keep_limit(self) -> None:
-        self.armed.wait()
-        time.sleep(END_SECONDS)
+        """Ends the process some time after it is armed. Whatever fails is tried again."""
+        is_over = False
+        while True:
+            try:
+                if not is_over:
+                    self.armed.wait()
+                    time.sleep(END_SECONDS)
+                is_over = True
+                self.end()
+            except Exception:
+                pass
+
+    def end(self) -> None:
         cry(b"front: it doesn't come to an end, as where a disk or a program hangs; it ends all the same, and what was answered OK is kept\n")
         os._exit(FAILED)
 
     def arm(self) -> None:
         """From now on the process ends within the limit, whatever happens."""
-        self.armed.set()
+        self.armed.give()

@@ -5,23 +5,27 @@ knowledge is a `View`, and each change makes a new one. Nothing here sends a com
 """
 import dataclasses
 import socket
-import threading
 import time
 from collections.abc import Callable, Sequence
 from typing import Final
 
-from hpb.lines import Shown
+from hpb.lines import Shown, parse_answer
 from hpb.pages import reaching
-from hpb.pages.view import Contact, State, View, period, taken
+from hpb.pages.view import Contact, State, Told, View, period, taken
 from hpb.refusals import HpbError
-from hpb.rules.told import NotTold, Told, look_whose, read_standing, read_told
+from hpb.rounds import News, ReadUpTo, Schedule
+from hpb.rules.told import NotTold, look_whose, read_standing, read_told
+from hpb.rules.told import Told as Standing
 from hpb.rules.tree import Tree
+from hpb.threads import Signal, Thread
 
 ADDRESS: Final = "127.0.0.1"
 # In seconds: the pause between two questions, and how long to wait for an answer before the server is reported silent.
 PACE: Final = 1.0
 PATIENCE: Final = 5.0
-_QUESTIONS = ("SHOW", "NODE", "WHO")
+_QUESTIONS = ("SHOW", "NODE", "WHO", "SCHEDULE", "EVENT", "READ")
+# So many news of a name are kept.
+_MOST_NEWS = 200
 _MOST_LINE = 65_536
 # How many times to ask again for a state, if a close came between the answers.
 _ATTEMPTS = 4
@@ -38,6 +42,14 @@ class NotFollowed(HpbError):
 
 class Lost(Exception):
     """The session has ended."""
+
+
+def started(target: Callable[..., None], *words: object) -> None:
+    """Starts following in a thread of its own, which ends with the process. If the system gives none, `NotFollowed` is raised."""
+    try:
+        Thread(lambda: target(*words)).start()
+    except RuntimeError as fault:
+        raise NotFollowed(f"the system gives no thread: {fault}") from None
 
 
 def at_port(port: int) -> Opens:
@@ -82,6 +94,8 @@ class Session:
                 raise NotFollowed("no line comes from this port: is it that of hpb serve?")
         line, self._received = self._received.split(b"\n", 1)
         text = line.decode("ascii", "backslashreplace")
+        if text == reaching.TAKEN_AWAY.decode():
+            raise NotFollowed(f"the token isn't known any more: {text}")
         if text in _ENDS:
             raise Lost(f"the session was ended by {text}")
         return text
@@ -89,28 +103,30 @@ class Session:
 
 class Follower:
     """Asks until it is stopped, or the auction is over. Each new view is passed to `publish`. `opens` makes a connection. If an
-    answer takes more than `patience` seconds, the view says so.
+    answer takes more than `patience` seconds, the view says so. `names` are those whose news a front is asked for; an empty one is the
+    name of the connection itself. Without a front there are none.
     """
 
     def __init__(
         self, tree: Tree, bidders: Sequence[str], opens: Opens, publish: Callable[[View], None], places: float = 1, pace: float = PACE,
-        patience: float = PATIENCE,
+        patience: float = PATIENCE, names: Sequence[str] = (),
     ) -> None:
         """`places` is how many connections may be made; `pace` is the pause between two questions, in seconds."""
         self._tree, self._bidders, self._opens, self._publish = tree, bidders, opens, publish
-        self._pace, self._patience, self._stopped = pace, patience, threading.Event()
+        self._pace, self._patience, self._stopped = pace, patience, Signal()
         self._node_lines: list[str] = []
         self._is_settled = True
+        self._names = list(names)
         self.view = View(None, Contact(State.WAITING, time.time(), places))
 
     def stop(self) -> None:
         """Makes it end soon. May be called from any thread."""
-        self._stopped.set()
+        self._stopped.give()
 
     def follow(self) -> None:
         """Returns when there is nothing more to ask. If the auction isn't the definition's, `NotFollowed` or `NotTold` is raised."""
         pause = self._pace
-        while not self._stopped.is_set() and self.view.contact.places > 0:
+        while not self._stopped.wait(0) and self.view.contact.places > 0:
             session = self._connect()
             if session is None:
                 self._stopped.wait(pause)
@@ -140,7 +156,7 @@ class Follower:
 
     def _keep_asking(self, session: Session) -> None:
         """Asks until the auction is over; nothing changes after that."""
-        while not self._stopped.is_set():
+        while not self._stopped.wait(0):
             self._ask(session)
             if self.view.seen and self.view.seen.standing.shown.is_over:
                 self._tell(State.OVER)
@@ -153,12 +169,41 @@ class Follower:
         now = old
         if old is None or shown != old.shown or not self._node_lines or not self._is_settled:
             now = self._read(session, shown, old) or old
+        is_news = self._ask_front(session)
         if now is not None and now is not old:
             self._take(now)
+        elif is_news:
+            self._tell(State.LIVE)
         elif self.view.contact.state != State.LIVE:
             self._tell(State.LIVE)
 
-    def _read(self, session: Session, shown: Shown, old: Told | None) -> Told | None:
+    def _ask_front(self, session: Session) -> bool:
+        """Asks a front for the state of its round clock, and for news. Returns whether there was anything new. An older front has neither."""
+        if not self._names:
+            return False
+        schedule = parse_answer(session.ask(["SCHEDULE"])[0])
+        if not isinstance(schedule, Schedule):
+            self._names = []
+            return False
+        told = {name: self._told(session, name) for name in self._names}
+        is_new = _without_time(schedule) != _without_time(self.view.schedule) or told != self.view.told
+        self.view = self.view._replace(schedule=schedule, told=told)
+        return is_new
+
+    def _told(self, session: Session, name: str) -> Told:
+        """The news of a name, with those that came since."""
+        told, whose = self.view.told.get(name, Told()), f" {name}" if name else ""
+        for _ in range(_MOST_NEWS):
+            answer = parse_answer(session.ask([f"EVENT {told.news[-1].number if told.news else 0}{whose}"])[0])
+            if not isinstance(answer, News):
+                break
+            told = told._replace(news=(*told.news, answer)[-_MOST_NEWS:])
+        if all(one.said is None or one.number <= told.read for one in told.news):
+            return told
+        read = parse_answer(session.ask([f"READ {name or 0}"])[0])
+        return told._replace(read=read.number) if isinstance(read, ReadUpTo) else told
+
+    def _read(self, session: Session, shown: Shown, old: Standing | None) -> Standing | None:
         """The answers to all questions at one moment. If closes came between them at each attempt, None."""
         whos, nodes = [f"WHO {name}" for name in self._bidders], [f"NODE {name}" for name in self._tree.nodes]
         for _ in range(_ATTEMPTS):
@@ -183,13 +228,13 @@ class Follower:
                 raise NotFollowed(f"another definition: {question} is answered {line}")
         return lines
 
-    def _take(self, now: Told) -> None:
+    def _take(self, now: Standing) -> None:
         look_whose(self._tree, now)
         self.view = self.view._replace(seen=taken(self._tree, self._bidders, self.view.seen, now))
         self._tell(State.LIVE)
 
     def _is_silent(self) -> None:
-        if self._stopped.is_set():
+        if self._stopped.wait(0):
             raise Lost("nobody waits for the answer")
         if self.view.contact.state == State.LIVE:
             self._tell(State.SILENT)
@@ -207,6 +252,11 @@ def _read_shown(line: str) -> Shown:
     if not isinstance(shown, Shown):
         raise NotFollowed(f"SHOW is answered {line[:100]!a}: is it the port of hpb serve?")
     return shown
+
+
+def _without_time(schedule: Schedule | None) -> Schedule | None:
+    """The parts that change only with the clock's state."""
+    return schedule and dataclasses.replace(schedule, left=0, now="")
 
 
 def _is_one_moment(first: Shown, last: Shown) -> bool:

@@ -4,6 +4,7 @@ from collections.abc import Mapping, Sequence
 from typing import Final, NamedTuple
 
 from hpb.amounts import money
+from hpb.pages.rounds import clock_says, news_says
 from hpb.pages.telling import NOBODY, bidder_texts, close_says, closes_say, contact_says, node_texts, outlook, round_says, stage_says
 from hpb.pages.view import Seen, View
 from hpb.rules.tree import Tree
@@ -33,9 +34,10 @@ class Model(NamedTuple):
 
 def model_of(tree: Tree, bidders: Sequence[str], view: View) -> Model:
     """The model of a view, with the standing of these bidders; the view has to show them."""
-    texts, marks = {"contact": contact_says(view.contact)}, {"contact": str(view.contact.state)}
+    texts, marks = {"contact": contact_says(view.contact), "rounds": clock_says(view.schedule)}, {"contact": str(view.contact.state)}
+    marks["rounds"] = view.schedule.state if view.schedule else ""
     if view.seen is None:
-        return Model({**_blank(tree, bidders), **texts}, marks, {"close-list": [], "round-list": []}, "0")
+        return Model({**_blank(tree, bidders), **texts}, marks, {"close-list": [], "round-list": [], "news-list": []}, "0")
     seen = view.seen
     texts |= _summary(tree, seen)
     marks["outlook"] = "ends" if seen.would_end() else ""
@@ -48,7 +50,7 @@ def model_of(tree: Tree, bidders: Sequence[str], view: View) -> Model:
         bidder = bidder_texts(tree, seen, name)
         texts |= {f"bidder-{name}-{field}": getattr(bidder, field) for field in [*BIDDER_FIELDS, "outlook"]}
         marks[f"bidder-{name}"] = bidder.mark
-    lists = {"close-list": close_says(seen), "round-list": round_says(seen)}
+    lists = {"close-list": close_says(seen), "round-list": round_says(seen), "news-list": news_says(view.own)}
     return Model(texts, marks, lists, digest(repr(seen.standing.nodes).encode()))
 
 

@@ -98,6 +98,8 @@ class Page:
             "header",
             element("h1", "Auction"),
             _marked(model, "p", "contact", class_="contact"),
+            _marked(model, "p", "rounds", class_="rounds"),
+            _listed(model, "news-list", "News of the auctioneer and the round clock"),
             element("dl", *summary, class_="summary"),
             _marked(model, "p", "outlook", class_="outlook"),
             element("noscript", element("p", "Without scripts this page doesn't follow: load it again to see changes.")),

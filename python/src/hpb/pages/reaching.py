@@ -7,10 +7,14 @@ import socket
 import ssl
 import stat
 
+from hpb.hosts import may_be_host
+
 ADDRESS = "127.0.0.1"
 TOKEN = re.compile(r"[!-~]{16,128}")
 # These lines answer no question: with them a connection, or its session, is ended.
 ENDS = (b"ERR 95 order", b"ERR front idle", b"ERR front many")
+# This one answers no question either: the token was taken away meanwhile, and trying again can't help.
+TAKEN_AWAY = b"ERR front token"
 MOST_WELCOME = 256
 
 
@@ -21,7 +25,7 @@ class GivesUp(Exception):
 def read_place(text: str) -> tuple[str, int]:
     """A host and a port, or a port of this machine: `auction.example:6000`, `[::1]:6000`, `5000`."""
     found = re.fullmatch(r"(?:(?:\[([^\[\]]+)\]|([^:\[\]]+)):)?([0-9]{1,5})", text)
-    if not found or not 1 <= int(found[3]) <= 65535:
+    if not found or not 1 <= int(found[3]) <= 65535 or not may_be_host(found[1] or found[2] or ADDRESS):
         raise argparse.ArgumentTypeError(f"{text!r} is no port, and no host and port as localhost:6000 is")
     return found[1] or found[2] or ADDRESS, int(found[3])
 

@@ -7,8 +7,8 @@ import socket
 import socketserver
 import ssl
 import sys
-import threading
 import time
+from _thread import allocate_lock
 from collections.abc import Callable, Iterable, Mapping
 from types import TracebackType
 from typing import Any, Final
@@ -17,6 +17,7 @@ from hpb.pages.page import HEADERS, ICONS, PICTURE, PICTURE_POLICY
 from hpb.pages.requests import REQUEST_SECONDS, Bad, Request, is_own, read_request
 from hpb.pages.walls import MOST_VIEWERS, Guests, Wall
 from hpb.streams import STANDARD_ERROR
+from hpb.threads import Places, Thread
 
 MOST_CONNECTIONS: Final = 256
 # If a viewer doesn't take an event for so long, the connection ends, and the page makes another one.
@@ -26,6 +27,7 @@ _BEAT_SECONDS = 5
 _MOST_UNREAD = 65_536
 # How long a connection may take to close, when it has to make room.
 _ROOM_SECONDS = 0.2
+_LOOK_SECONDS = 0.005
 _REASONS: Final = {
     200: "OK",
     400: "Bad Request",
@@ -134,15 +136,15 @@ class Viewer(socketserver.BaseRequestHandler):
 class _Taken:
     """One of a number of places, given back at the end. If none is left, the request is refused."""
 
-    def __init__(self, places: threading.Semaphore) -> None:
+    def __init__(self, places: Places) -> None:
         self._places = places
 
     def __enter__(self) -> None:
-        if not self._places.acquire(blocking=False):
+        if not self._places.take():
             raise Bad(503)
 
     def __exit__(self, kind: type[BaseException] | None, fault: BaseException | None, trace: TracebackType | None) -> None:
-        self._places.release()
+        self._places.give_back()
 
 
 def _found(wall: Wall, name: str) -> tuple[str, bytes, Mapping[str, str]]:
@@ -181,10 +183,10 @@ class Server(socketserver.ThreadingTCPServer):
         self.note = note
         self.address_family = listener.family if listener else socket.AF_INET6 if ":" in address[0] else socket.AF_INET
         self.names, self.guests, self._context = {"localhost", *(name.lower() for name in names)}, guests, context
-        self._room, self.viewers = threading.BoundedSemaphore(MOST_CONNECTIONS), threading.BoundedSemaphore(MOST_VIEWERS)
+        self._room, self.viewers = Places(MOST_CONNECTIONS), Places(MOST_VIEWERS)
         self._silent: dict[socket.socket, str] = {}
         self._inside: set[socket.socket] = set()
-        self._lock = threading.Lock()
+        self._lock = allocate_lock()
         self._is_refused = False
         super().__init__(address, Viewer, bind_and_activate=listener is None)
         if listener:
@@ -221,18 +223,25 @@ class Server(socketserver.ThreadingTCPServer):
 
     def process_request(self, request: Any, address: Any) -> None:
         """For `socketserver`."""
-        if not self._room.acquire(blocking=False) and not (self._end_silent() and self._room.acquire(timeout=_ROOM_SECONDS)):
+        if not self._room.take() and not (self._end_silent() and self._takes_room()):
             self.shutdown_request(request)
             return
         try:
             with self._lock:
                 self._inside.add(request)
                 self._silent[request] = address[0]
-            super().process_request(request, address)
+            Thread(lambda: self.process_request_thread(request, address)).start()
         except BaseException:
             # No thread runs for it that would give its place back.
             self._give_back(request)
             raise
+
+    def _takes_room(self) -> bool:
+        """Waits a moment for a place."""
+        end = time.monotonic() + _ROOM_SECONDS
+        while not (has_room := self._room.take()) and time.monotonic() < end:
+            time.sleep(_LOOK_SECONDS)
+        return has_room
 
     def process_request_thread(self, request: Any, address: Any) -> None:
         """For `socketserver`."""
@@ -248,7 +257,7 @@ class Server(socketserver.ThreadingTCPServer):
             if request not in self._inside:
                 return
             self._inside.discard(request)
-        self._room.release()
+        self._room.give_back()
 
     def has_asked(self, request: socket.socket) -> None:
         """A connection has asked for something, so it won't be ended to make room."""

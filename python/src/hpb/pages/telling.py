@@ -222,6 +222,9 @@ def announcement(old: View, new: View) -> str:
     """A few words for listeners about the change from one view to another, or none."""
     if new.seen is None or old.seen is None or old.contact.state != new.contact.state:
         return contact_says(new.contact)
+    last = old.own.news[-1].number if old.own.news else 0
+    if fresh := [one for one in new.own.news if one.number > last]:
+        return " ".join(one.said or one.text for one in fresh)
     before, after = old.seen.standing, new.seen.standing
     then, now = before.shown, after.shown
     if (then.round, then.is_over) != (now.round, now.is_over):

@@ -3,6 +3,7 @@ from collections.abc import Collection, Iterator, Sequence
 from typing import Final
 
 from hpb.amounts import counted, money
+from hpb.pages.rounds import clock_says, news_says
 from hpb.pages.telling import (
     ENOUGH,
     FALLS,
@@ -17,7 +18,8 @@ from hpb.pages.telling import (
     round_says,
     stage_says,
 )
-from hpb.pages.view import Seen, State, View
+from hpb.pages.view import Seen, State, Told, View
+from hpb.plain import plain
 from hpb.rules.tree import Tree
 
 BOLD, DIM, GREEN, YELLOW, RED, PLAIN = "\x1b[1m", "\x1b[2m", "\x1b[32m", "\x1b[33m", "\x1b[31m", "\x1b[0m"
@@ -44,6 +46,9 @@ def picture(tree: Tree, view: View, style: Style) -> Iterator[str]:
     """All lines of the picture."""
     contact = contact_says(view.contact)
     yield style.of(contact, GREEN) if view.contact.state in (State.LIVE, State.OVER) else style.of(contact, RED, BOLD)
+    if clock := clock_says(view.schedule):
+        yield style.of(clock, BOLD)
+    yield from (f"  {plain(line)}" for line in news_says(view.own))
     if view.seen:
         yield from _seen_lines(tree, view.seen, style)
 
@@ -52,6 +57,8 @@ def changes(tree: Tree, old: View, new: View) -> Iterator[str]:
     """A line for each change."""
     if old.contact.state != new.contact.state:
         yield contact_says(new.contact)
+    last = old.own.news[-1].number if old.own.news else 0
+    yield from (plain(line) for one in new.own.news if one.number > last for line in news_says(Told((one,))))
     before, after = old.seen, new.seen
     if after is None or (before and after.standing is before.standing):
         return

@@ -5,7 +5,8 @@ from enum import StrEnum
 from typing import Final, NamedTuple
 
 from hpb.lines import Shown, WhoShown
-from hpb.rules.told import Told
+from hpb.rounds import News, Schedule
+from hpb.rules.told import Told as Standing
 from hpb.rules.tree import Tree
 
 # A front doesn't limit the number of connections.
@@ -41,8 +42,8 @@ class Begin(NamedTuple):
 class Seen(NamedTuple):
     """The state of an auction. `before` is the last state seen before the last close, or None if no close was seen."""
 
-    standing: Told
-    before: Told | None
+    standing: Standing
+    before: Standing | None
     begin: Begin
 
     def accepted(self) -> int:
@@ -63,18 +64,33 @@ class Seen(NamedTuple):
         return Seen(_only(self.standing, names), before, self.begin._replace(whos=_kept(self.begin.whos, names)))
 
 
+class Told(NamedTuple):
+    """The last news for a name, and the number up to which it has read them."""
+
+    news: tuple[News, ...] = ()
+    read: int = 0
+
+
 class View(NamedTuple):
-    """Everything known. `seen` is None until the first answers."""
+    """Everything known. `seen` is None until the first answers, and so is `schedule` without a front. `told` has the news of each name."""
 
     seen: Seen | None
     contact: Contact
+    schedule: Schedule | None = None
+    told: Mapping[str, Told] = {}
 
-    def only(self, bidders: Iterable[str]) -> "View":
-        """The same, with these bidders only."""
-        return self._replace(seen=self.seen and self.seen.only(bidders))
+    def only(self, bidders: Iterable[str], name: str = "") -> "View":
+        """The same, with these bidders and the news of this name only."""
+        told = {"": self.told[name]} if name in self.told else {}
+        return self._replace(seen=self.seen and self.seen.only(bidders), told=told)
+
+    @property
+    def own(self) -> Told:
+        """The news of the one name that is left."""
+        return self.told.get("", Told())
 
 
-def _only(told: Told, bidders: Iterable[str]) -> Told:
+def _only(told: Standing, bidders: Iterable[str]) -> Standing:
     return replace(told, whos=_kept(told.whos, bidders))
 
 
@@ -82,7 +98,7 @@ def _kept(whos: Mapping[str, WhoShown], bidders: Iterable[str]) -> dict[str, Who
     return {name: whos[name] for name in bidders if name in whos}
 
 
-def taken(tree: Tree, bidders: Iterable[str], old: Seen | None, now: Told) -> Seen:
+def taken(tree: Tree, bidders: Iterable[str], old: Seen | None, now: Standing) -> Seen:
     """The knowledge after new answers. `old` is the knowledge before them."""
     if old is None or _is_another(old.standing, now):
         return Seen(now, None, _begin_of(tree, bidders, None, now))
@@ -96,13 +112,13 @@ def period(shown: Shown) -> tuple[int, bool]:
     return shown.round, shown.is_over
 
 
-def _is_another(old: Told, now: Told) -> bool:
+def _is_another(old: Standing, now: Standing) -> bool:
     """Whether the answers don't continue the earlier ones: for example, an older copy of the file is served now."""
     same_period = period(now.shown) == period(old.shown)
     return now.shown.count < old.shown.count or (same_period and now.nodes != old.nodes)
 
 
-def _begin_of(tree: Tree, bidders: Iterable[str], old: Told | None, now: Told) -> Begin:
+def _begin_of(tree: Tree, bidders: Iterable[str], old: Standing | None, now: Standing) -> Begin:
     """How this round began. `old` is the last state seen before it, if any was."""
     shown = now.shown
     if shown.round == 1 and not shown.is_over:

@@ -1,7 +1,7 @@
 """Which viewers see which bidders of an auction: a wall for each set of bidders, and the guests who may look at it."""
 import base64
 import binascii
-import threading
+from _thread import LockType, allocate_lock
 from collections.abc import Mapping, Sequence
 from typing import Final, Protocol
 
@@ -11,6 +11,7 @@ from hpb.pages.requests import Bad
 from hpb.pages.telling import announcement
 from hpb.pages.view import View
 from hpb.rules.tree import Tree
+from hpb.threads import Places, held_lock
 
 MOST_VIEWERS: Final = 200
 
@@ -24,29 +25,41 @@ class Wall:
         """`most` is how many viewers may follow the wall at once. `name` is its owner, if it has one."""
         self.name = name
         self.page = Page(tree, bidders)
-        self.viewers = threading.BoundedSemaphore(most)
+        self.viewers = Places(most)
         self._bidders = bidders
-        self._view, self._number, self._said = view.only(bidders), 0, ""
+        self._view, self._number, self._said = view.only(bidders, name or ""), 0, ""
         self._model: Model | None = None
-        self._hung = threading.Condition()
+        self._lock = allocate_lock()
+        # Those who wait for the next view: each holds its lock until it comes.
+        self._waiting: list[LockType] = []
 
     def hang(self, view: View) -> None:
         """Replaces the current view by a newer one."""
-        own = view.only(self._bidders)
-        with self._hung:
+        own = view.only(self._bidders, self.name or "")
+        with self._lock:
             self._said = announcement(self._view, own)
             self._view, self._model, self._number = own, None, self._number + 1
-            self._hung.notify_all()
+            waiting, self._waiting = self._waiting, []
+        for one in waiting:
+            one.release()
 
     def now(self) -> tuple[View, Model, int]:
         """The current view, its model and its number."""
-        with self._hung:
+        with self._lock:
             return self._view, self._made(), self._number
 
     def next(self, number: int, seconds: float) -> tuple[Model, int, str]:
         """The model after number `number`, its own number, and its announcement. If none comes within `seconds`, it is the current one."""
-        with self._hung:
-            self._hung.wait_for(lambda: self._number != number, seconds)
+        hung = held_lock()
+        with self._lock:
+            if self._number == number:
+                self._waiting.append(hung)
+            else:
+                hung.release()
+        if not hung.acquire(timeout=seconds):
+            with self._lock:
+                self._waiting = [one for one in self._waiting if one is not hung]
+        with self._lock:
             return self._made(), self._number, self._said
 
     def _made(self) -> Model:

@@ -7,7 +7,7 @@ from collections.abc import Iterator
 from os import PathLike
 
 from hpb.record.entries import (
-    FIRST_FORM, FORM, HASH_BYTES, OK, Damaged, Entry, InTheWay, InUse, New, Place, WrongSegment, entries_of, entry_line, sealed, text_of,
+    FIRST_FORM, FORM, HASH_BYTES, OK, CutShort, Damaged, Entry, InTheWay, InUse, New, Place, WrongSegment, entries_of, entry_line, sealed, text_of,
     time_now,
 )
 from hpb.record.file import RecordFile
@@ -15,7 +15,7 @@ from hpb.record.segments import Reader
 from hpb.record.state import State
 
 __all__ = [
-    "FIRST_FORM", "FORM", "HASH_BYTES", "OK", "Damaged", "Entry", "InTheWay", "InUse", "New", "Place", "RecordFile", "State",
+    "FIRST_FORM", "FORM", "HASH_BYTES", "OK", "CutShort", "Damaged", "Entry", "InTheWay", "InUse", "New", "Place", "RecordFile", "State",
     "WrongSegment", "entries_of", "entry_line", "read_record", "record_entries", "sealed", "text_of", "time_now",
 ]
 

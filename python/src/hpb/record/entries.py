@@ -25,6 +25,10 @@ class Damaged(Exception):
     """The record isn't as a front wrote it."""
 
 
+class CutShort(Damaged):
+    """The record ends within an entry, as a copy may that was made while a front wrote."""
+
+
 class WrongSegment(Damaged):
     """A segment before the last is missing, or differs from the one that the next segment names."""
 
@@ -121,11 +125,13 @@ def place_of(line: bytes, entry: Entry) -> Place:
 
 
 def entries_of(file: BinaryIO, place: Place = Place()) -> Iterator[tuple[Entry, Place]]:
-    """Reads each entry of an open file, with the place behind it. A Damaged names the first one that isn't as a front wrote it."""
+    """Reads each entry of an open file, with the place behind it. A Damaged names the first one that isn't as a front wrote it. It is a
+    CutShort if the file ends within that one."""
     while line := file.readline(MOST_ENTRY):
         try:
             entry = read_entry(line, place)
         except Damaged as fault:
-            raise Damaged(f"entry {place.number + 1}: {fault}") from None
+            is_cut = not line.endswith(b"\n") and len(line) < MOST_ENTRY
+            raise (CutShort if is_cut else Damaged)(f"entry {place.number + 1}: {fault}") from None
         place = place_of(line, entry)
         yield entry, place

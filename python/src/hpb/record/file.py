@@ -3,17 +3,18 @@
 import fcntl
 import hashlib
 import os
-from collections.abc import Iterator, Sequence
+from collections.abc import Sequence
 
-from hpb.own_files import look_at_owner, open_own
+from hpb.own_files import is_at, look_at_owner, open_own
 from hpb.record.asked import AskedFile, Mark
 from hpb.record.entries import (
-    FIRST, FIRST_FORM, FORM, HASH_BYTES, MEGABYTE, NO_HASH, Damaged, Entry, InUse, New, Place, content_of, entries_of, entry_line,
+    FIRST, FIRST_FORM, FORM, HASH_BYTES, NO_HASH, Damaged, Entry, InUse, New, Place, content_of, entries_of, entry_line,
     time_now,
 )
+from hpb.record.kept import NotKept, look_at_length, look_at_name, pieces_of
 from hpb.record.segments import (
-    MOST_SEGMENT, Behind, digest_of, first_line, head_line, head_of, look_at_seals, segment_path, segment_paths, sync_folder, write_aside,
-    write_segment,
+    MOST_SEGMENT, Behind, digest_of, first_line, head_line, head_of, lines_of_round, look_at_seals, segment_path, segment_paths,
+    sync_folder, write_aside, write_segment,
 )
 from hpb.record.state import State
 from hpb.record.torn import may_be_first, may_be_one_write
@@ -29,7 +30,8 @@ class RecordFile:
         a segment is missing. An OSError may say that somebody else owns the record or may write it."""
         self.path, self.most_segment = str(path), most_segment
         paths = segment_paths(self.path)
-        self.lock = open_own(self.path, HOW, may_make=not paths)
+        self.is_new = not paths
+        self.lock = open_own(self.path, HOW, may_make=self.is_new)
         self.file = self.lock
         try:
             fcntl.flock(self.lock, fcntl.LOCK_EX | fcntl.LOCK_NB)
@@ -43,6 +45,7 @@ class RecordFile:
             raise
         self.place, self.state, self.digest, self.length = Place(), State(), hashlib.sha256(), 0
         self.segment = 1
+        self.not_kept: NotKept | None = None
 
     # The start.
 
@@ -64,11 +67,20 @@ class RecordFile:
             self.look_at_mark(mark, marked)
         except Damaged:
             if not may_set_aside:
+                self.leave_none()
                 raise
         # A front that was killed may have left entries that aren't on the disk yet.
         os.fdatasync(self.file)
         self.take_asked(mark)
-        return self.set_aside(torn) if torn else None
+        aside = self.set_aside(torn) if torn else None
+        if self.state.lines is None and not self.state.foreign:
+            self.state.lines = lines_of_round(self.path)
+        return aside
+
+    def leave_none(self) -> None:
+        """Removes a record that was made here and has nothing yet, since the right one is another."""
+        if self.is_new and not os.fstat(self.lock).st_size and is_at(self.lock, self.path):
+            os.unlink(self.path)
 
     def read_segment(self, path: str, mark: Mark) -> tuple[str, str]:
         """Reads the last segment's whole entries. Gives the hash of the marked entry, if this segment has it, and the fault of the first
@@ -119,29 +131,40 @@ class RecordFile:
 
     def set_aside(self, torn: int) -> Entry:
         """Moves the bytes after the whole entries into a file of their own."""
-        aside = write_aside(self.path, self.pieces(self.length))
+        aside = write_aside(self.path, pieces_of(self.file, self.length))
         os.ftruncate(self.file, self.length)
         os.fsync(self.file)
         return {"bytes": torn, "aside": os.path.basename(aside)}
-
-    def pieces(self, at: int) -> Iterator[bytes]:
-        """The bytes of the last segment from there on."""
-        while piece := os.pread(self.file, MEGABYTE, at):
-            at += len(piece)
-            yield piece
 
     # Entries.
 
     def write(self, entries: Sequence[New]) -> None:
         """Adds entries by one write. They are on the disk when this returns. After an OSError they may be there or not, so the record has
-        to be opened again before anything is added."""
+        to be opened again before anything is added. A NotKept says that another program did something to the record."""
+        # An entry behind another program's bytes would be damage, so the length is looked at first; names are looked at in the end.
+        look_at_length(self.file, self.length, segment_path(self.path, self.segment))
         if self.needs_segment():
             self.begin_segment()
         self.add(entries)
+        self.look()
         # If another file has the next segment's name, this segment goes on. The next start reports it.
         if self.length >= self.most_segment and not os.path.lexists(segment_path(self.path, self.segment + 1)):
             self.add([New("sealed", {"bytes": self.length, "sha256": self.digest.hexdigest()}, time_now())])
             self.begin_segment()
+
+    def look(self) -> None:
+        """Checks that the files of the record which are open have their names, and the last segment its length. The front looks at the
+        others at its start. After a NotKept each further look raises it again, and saves nothing twice."""
+        if self.not_kept:
+            raise self.not_kept
+        last = segment_path(self.path, self.segment)
+        try:
+            for file, path in {self.lock: self.path, self.file: last, self.asked.file: self.asked.path}.items():
+                look_at_name(file, path)
+            look_at_length(self.file, self.length, last)
+        except NotKept as fault:
+            self.not_kept = fault
+            raise
 
     def add(self, entries: Sequence[New]) -> None:
         place, lines = self.place, []

@@ -13,7 +13,7 @@ from dataclasses import dataclass
 
 from hpb.own_files import MODE, give_name, open_own
 from hpb.record.entries import (
-    FIRST_FORM, FORM, HASH_BYTES, MEGABYTE, MOST_ENTRY, Damaged, Entry, InTheWay, Place, WrongSegment, content_of, entries_of, entry_line,
+    FIRST_FORM, FORM, HASH_BYTES, MEGABYTE, MOST_ENTRY, CutShort, Damaged, Entry, InTheWay, Place, WrongSegment, content_of, entries_of, entry_line,
     is_sealed,
 )
 from hpb.record.state import State
@@ -138,17 +138,25 @@ class Reader:
         self.place, self.state = Place(), State()
 
     def entries(self) -> Iterator[tuple[Entry, Place]]:
-        """Reads each entry, with the place behind it. A Damaged says which one isn't as a front wrote it."""
+        """Reads each entry, with the place behind it. A Damaged says which one isn't as a front wrote it. It is a CutShort if the record
+        ends within that one."""
         for number, path in enumerate(self.paths, 1):
-            first = self.place.number + 1
-            with open(path, "rb") as file:
-                for entry, self.place in entries_of(file, self.place):
-                    if number > 1 and entry["entry"] == first:
-                        self.look_at_head(entry, number)
-                    if entry["kind"] == "sealed":
-                        look_at_seal(entry, path)
-                    self.state.take(entry)
-                    yield entry, self.place
+            try:
+                yield from self.entries_in(number, path)
+            except CutShort as fault:
+                raise fault if number == len(self.paths) else Damaged(str(fault)) from None
+
+    def entries_in(self, number: int, path: str) -> Iterator[tuple[Entry, Place]]:
+        """The same of one segment."""
+        first = self.place.number + 1
+        with open(path, "rb") as file:
+            for entry, self.place in entries_of(file, self.place):
+                if number > 1 and entry["entry"] == first:
+                    self.look_at_head(entry, number)
+                if entry["kind"] == "sealed":
+                    look_at_seal(entry, path)
+                self.state.take(entry)
+                yield entry, self.place
 
     def look_at_head(self, entry: Entry, number: int) -> None:
         """Checks a segment's first entry: it has to name the file before it, and the state after that file."""
@@ -159,8 +167,24 @@ class Reader:
             raise Damaged(f"entry {entry['entry']}: {os.path.basename(before)}, before it, has no seal")
         if entry.get("behind") != file_behind(before).fields():
             raise Damaged(f"entry {entry['entry']}: {os.path.basename(before)}, before it, isn't the segment that it names")
-        if entry.get("definition") != self.state.definition or entry.get("state") != self.state.head():
+        if entry.get("definition") != self.state.definition or not is_head(entry.get("state"), self.state.head()):
             raise Damaged(f"entry {entry['entry']}: what it says of the segments before it isn't so")
+
+
+def is_head(found: object, head: Entry) -> bool:
+    """Whether this is the state of a segment's first entry. Those of before December 2026 lack the commands of the open round."""
+    return found == head or ("rounds" not in head and found == {name: value for name, value in head.items() if name != "lines"})
+
+
+def lines_of_round(path: str) -> list[bytes] | None:
+    """The commands of the open round, by all segments; None if they can't all be read."""
+    reader = Reader(path)
+    try:
+        for _ in reader.entries():
+            pass
+    except (Damaged, OSError):
+        return None
+    return reader.state.lines
 
 
 def look_at_seal(entry: Entry, path: str) -> None:

@@ -17,7 +17,6 @@ from hpb.lines import (
     Bid,
     Close,
     Command,
-    Line,
     NodeShown,
     Show,
     Shown,
@@ -253,7 +252,7 @@ def _numbered(auction: Auction, command: Command, number: int) -> Auction:
 def answer(auction: Auction, line: str) -> tuple[Auction, Answer]:
     """The auction after a line without its LF, and its answer. If the line isn't of the grammar, the answer is 10."""
     try:
-        asked: Line = parse_line(line)
+        asked = parse_line(line)
     except Refused as refused:
         return auction, refused
     match asked:

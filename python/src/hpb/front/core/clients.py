@@ -1,10 +1,12 @@
 """Connections of clients: how they begin, which lines they may send, and when they end."""
 import collections
 
+from hpb.front.core import rounds
 from hpb.front.core.effects import Abort, Answer, End, Field, Take, Wait
 from hpb.front.core.events import Came, Gone, Line, LinesEnded, OfClient, Opened, Reloaded, Stuffed, TooLong, Waited
 from hpb.front.core.state import Connection, Going, Item
 from hpb.front.core.stepping import Step
+from hpb.front.core.values import changed
 from hpb.front.limits import BURST_SECONDS
 from hpb.front.rights import FORM, IDLE, LONG, MANY, TOKEN, UNKNOWN, refused, welcome
 
@@ -254,6 +256,8 @@ def wait_seconds(step: Step, name: str) -> float:
 def queue(step: Step, item: Item) -> None:
     """Puts a line at the end of its name's lines, to be answered in turn."""
     connection = step.front.connections[item.connection]
+    item = changed(item, number=step.front.taken + 1, round=rounds.mark(step.front))
+    step.set(taken=item.number)
     step.set_connection(item.connection, waiting=connection.waiting + 1, taken=connection.taken + 1)
     name, known = item.token.name, step.front.names[item.token.name]
     step.set_name(name, items=(*known.items, item))

@@ -144,7 +144,7 @@ class Wake:
 
 @dataclass(frozen=True, slots=True)
 class Publish:
-    """Writes a line on standard output."""
+    """Writes a line on standard output. `Unpublished` follows if it is the first one that can't be written."""
 
     text: str
 

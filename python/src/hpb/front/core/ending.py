@@ -9,6 +9,8 @@ from hpb.front.core.stepping import Step
 LINES_SECONDS, RECORD_SECONDS, SERVER_SECONDS = 5.0, 6.0, 7.0
 # After so many seconds the front waits for nothing any more.
 LAST_SECONDS = 8.0
+# How the lines on standard output begin that name the addresses of the front and of its page.
+LISTENS = ("LISTENING ", "BOARD ")
 
 
 def stop(step: Step) -> None:
@@ -23,6 +25,14 @@ def stop(step: Step) -> None:
     step.set(phase=Phase.ANSWERING, stopped_at=step.front.time)
     step.do(Shut(), *(Wake(seconds) for seconds in (LINES_SECONDS, RECORD_SECONDS, LAST_SECONDS)))
     clients.close(step)
+
+
+def take_unpublished(step: Step, line: str) -> None:
+    """Standard output lost a line. Anyone who starts a front waits for the lines that name its addresses. Without one of them it stops, so
+    that nobody waits for it without end. Without any other line it goes on, since bidders need none."""
+    if line.startswith(LISTENS):
+        step.say(f"it stops, because anyone who waits for its line {line.split()[0]} would wait without end")
+        stop(step)
 
 
 def go_on(step: Step) -> None:

@@ -1,11 +1,12 @@
 """What happens to a front. A connection is a number that is never used again; a session is a place, from 0."""
 from collections.abc import Mapping
-from dataclasses import dataclass
+from dataclasses import dataclass, field
 from typing import TypeAlias
 
 from hpb.front.limits import Limits
 from hpb.front.tokens import Tokens
-from hpb.record.entries import Place
+from hpb.record.entries import Entry, Place
+from hpb.record.news import News
 
 # Connections.
 
@@ -138,13 +139,19 @@ class Left:
 
 @dataclass(frozen=True, slots=True)
 class RecordOpened:
-    """The record is open, and this is its state. `left` are the commands without an answer, in the record and beside it."""
+    """The record is open, and this is its state. `left` are the commands without an answer, in the record and beside it. `lines` are the
+    commands of the open round, if they are known. `clock` is the last state of the round clock, if there was one."""
 
     count: int
     used: Mapping[str | None, int]
     foreign: int
     left: tuple[Left, ...]
     place: Place
+    lines: tuple[bytes, ...] | None = None
+    clock: Entry = field(default_factory=dict)
+    news: tuple[News, ...] = ()
+    told: Mapping[str, int] = field(default_factory=dict)
+    read: Mapping[str, int] = field(default_factory=dict)
 
 
 @dataclass(frozen=True, slots=True)
@@ -188,6 +195,13 @@ class BoardAsks:
 
 
 @dataclass(frozen=True, slots=True)
+class Unpublished:
+    """The line is the first one that standard output lost."""
+
+    line: str
+
+
+@dataclass(frozen=True, slots=True)
 class Reloaded:
     """Limits and tokens were read again."""
 
@@ -198,6 +212,15 @@ class Reloaded:
 @dataclass(frozen=True, slots=True)
 class Tick:
     """Time has passed."""
+
+
+@dataclass(frozen=True, slots=True)
+class ClockRead:
+    """The clocks were read, both at one moment: UTC and the monotonic clock, in seconds. `is_synchronised` is what the system says of UTC."""
+
+    monotonic: float
+    utc: float
+    is_synchronised: bool
 
 
 @dataclass(frozen=True, slots=True)
@@ -212,4 +235,4 @@ class Failed:
     why: str
 
 
-Event: TypeAlias = OfClient | OfServer | OfRecord | BoardUp | BoardAsks | Reloaded | Tick | Stop | Failed
+Event: TypeAlias = OfClient | OfServer | OfRecord | BoardUp | BoardAsks | Unpublished | Reloaded | Tick | ClockRead | Stop | Failed

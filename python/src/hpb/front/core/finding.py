@@ -2,8 +2,9 @@
 record before anybody is let in."""
 from typing import Any
 
-from hpb.front.core import matching, sessions
-from hpb.front.core.effects import Admit, EmptyBeside, Publish, StartBoard
+from hpb.front.core import matching, news, rounds, sessions
+from hpb.front.core.books import books_of
+from hpb.front.core.effects import Admit, EmptyBeside, Publish, StartBoard, Wake
 from hpb.front.core.events import Left, RecordOpened
 from hpb.front.core.ledger import WHERE_THE_AUDIT_ENDS, Foreign, Held
 from hpb.front.core.state import Finding, For, Phase
@@ -11,7 +12,7 @@ from hpb.front.core.stepping import Step
 from hpb.front.core.values import changed
 from hpb.front.rights import sender_and_ticket
 from hpb.record.entries import Entry, text_of
-from hpb.rules.told import NotTold
+from hpb.rules.told import NotTold, read_told
 
 # The session for questions to the server before anybody is let in.
 FIRST = matching.FIRST
@@ -24,6 +25,8 @@ def begin(step: Step, event: RecordOpened) -> None:
     left = tuple(one for one in event.left if one.asked or is_open(one, event))
     step.set(phase=Phase.ASKING, finding=Finding(asked, (), event.used, event.foreign, left=left))
     step.set_ledger(count=event.count, place=event.place)
+    step.set(books=books_of(event.lines), **news.restored(event.news, event.told, event.read))
+    rounds.change(step, is_on=step.front.setting.plan is not None or bool(event.clock), saved=event.clock)
     sessions.tell(step, FIRST, asked[0], For.START)
 
 
@@ -47,6 +50,7 @@ def take_answer(step: Step, answer: bytes) -> None:
             hear_left(step, answer)
         case Phase.SHOWING:
             sessions.look_whether_over(step, answer)
+            rounds.take_shown(step, answer)
             let_in(step)
 
 
@@ -116,7 +120,7 @@ def compare(step: Step) -> None:
 
 def note(step: Step) -> None:
     """Writes the found commands into the record, in the order of their numbers."""
-    finding = step.front.finding
+    finding, tree = step.front.finding, step.front.setting.tree
     for kind, fields in finding.others:
         step.write(kind, **fields)
     held = {number: Held(0, left.name, left.line, asked=left.asked) for number, left in finding.found.items()}
@@ -126,6 +130,7 @@ def note(step: Step) -> None:
         sessions.note_foreign(step, Foreign(step.front.ledger.count + 1, count))
     # From here on the ledger knows the senders of all commands in the file.
     step.set_ledger(used=finding.used, has_strangers=False)
+    step.set(books=step.front.books.began(tree, read_told(tree, finding.answers)))
     step.set(phase=Phase.NOTING)
     go_on(step)
 
@@ -162,7 +167,7 @@ def let_in(step: Step) -> None:
 def admit(step: Step, board: str = "") -> None:
     """Lets clients in. `board` is the page's line for standard output."""
     step.set(phase=Phase.OPEN)
-    step.do(Admit(), Publish(f"LISTENING {step.front.setting.address}"))
+    step.do(Admit(), Publish(f"LISTENING {step.front.setting.address}"), Wake(0.0))
     step.note("started", count=step.front.ledger.count)
     if board:
         step.do(Publish(board))

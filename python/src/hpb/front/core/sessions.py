@@ -2,15 +2,20 @@
 
 A command is first put beside the record, and then sent to the server. Once it is accepted, it is written into the record, and then its
 answer leaves. Meanwhile the session takes no other line.
-"""
-from collections.abc import Iterable
 
-from hpb.front.core import clients
+A CLOSE waits until all commands that were taken before it have their answers. Those that were taken behind it wait for its answer. A CLOSE by
+the clock waits for all commands that were taken in its round; later ones are refused.
+"""
+from collections.abc import Callable, Iterable
+
+from hpb.front.core import clients, desk, news, rounds
+from hpb.front.core.clock import At
 from hpb.front.core.effects import AnswerBoard, FreeBeside, Publish, PutBeside, Tell, Wake
 from hpb.front.core.ledger import WHERE_THE_AUDIT_ENDS, Foreign, Held
 from hpb.front.core.state import For, Item, Phase, Session, Stage
 from hpb.front.core.stepping import Step
-from hpb.front.rights import is_command, refused
+from hpb.front.rights import for_server, is_close, is_command, is_own, refused
+from hpb.front.tokens import LEAST_TOKEN
 from hpb.record.entries import OK, text_of
 
 OVER = b" CLOSED "
@@ -55,30 +60,111 @@ def go_on(step: Step, places: Iterable[int]) -> None:
     for place in places:
         if step.front.sessions[place].stage is Stage.ANSWERED:
             leave(step, place)
-        while (session := step.front.sessions[place]).turns and session.stage is Stage.FREE and step.front.phase in SERVES:
-            name, *others = session.turns
+        close_by_clock(step, place)
+        while name := next_name(step, place):
+            others = tuple(other for other in step.front.sessions[place].turns if other != name)
             item, *items = step.front.names[name].items
             step.set_name(name, items=tuple(items))
-            step.set_session(place, turns=(*others, name) if items else tuple(others))
+            step.set_session(place, turns=(*others, name) if items else others)
             begin(step, place, name, item)
+
+
+def next_name(step: Step, place: int) -> str:
+    """The name whose line is next in a session, or none if all have to wait."""
+    session, front = step.front.sessions[place], step.front
+    if session.stage is not Stage.FREE or front.phase not in SERVES:
+        return ""
+    gate = gate_of(step)
+    return next((name for name in session.turns if may_begin(step, front.names[name].items[0], gate)), "")
 
 
 def begin(step: Step, place: int, name: str, item: Item) -> None:
     """Begins a line. If its connection has ended, or its token was removed, the line is dropped."""
+    is_of_round = item.refusal is None and is_command(item.line)
     if is_dropped(step, item) or item.connection not in step.front.connections:
         clients.drop(step, item.connection)
-    elif item.refusal:
-        answer = refused(item.refusal)
+    elif word := item.refusal or (desk.refusal(step, item) if is_of_round else None):
+        answer = refused(word)
         note(step, name, item.line, answer)
         clients.answer(step, item.connection, answer)
-    elif is_command(item.line):
-        ledger, beside = step.front.ledger.took_place()
-        step.set(ledger=ledger)
-        step.set_session(place, stage=Stage.BESIDE, purpose=For.LINE, line=item.line, name=name, item=item, beside=beside)
-        step.do(PutBeside(beside, name, item.line))
+    elif is_of_round:
+        put_beside(step, place, name, for_server(item.line), item)
+    elif is_own(item.line):
+        answer = desk.answer(step, name, item.line)
+        note(step, name, item.line, answer)
+        entry = step.front.ledger.written
+        step.set_session(place, stage=Stage.ANSWERED, purpose=For.LINE, line=item.line, name=name, item=item, answer=answer, entry=entry)
+        leave(step, place)
     else:
         step.set_session(place, name=name, item=item)
         tell(step, place, item.line, For.LINE)
+
+
+def put_beside(step: Step, place: int, name: str, line: bytes, item: Item | None) -> None:
+    """Puts a command beside the record. It goes to the server once it stands there."""
+    ledger, beside = step.front.ledger.took_place()
+    step.set(ledger=ledger)
+    step.set_session(place, stage=Stage.BESIDE, purpose=For.LINE, line=line, name=name, item=item, beside=beside)
+    step.do(PutBeside(beside, name, line))
+
+
+# Closes.
+
+
+def desk_of(step: Step) -> tuple[int, Session]:
+    """The session of the auctioneer, and its place."""
+    place = step.front.names[step.front.setting.desk].session
+    return place, step.front.sessions[place]
+
+
+def gate_of(step: Step) -> int | None:
+    """Commands that were taken behind this line have to wait: it is the auctioneer's CLOSE, or 0 if a CLOSE is on its way. None if there is no
+    CLOSE."""
+    name = step.front.names[step.front.setting.desk]
+    session = step.front.sessions[name.session]
+    if is_close(session.line) and is_judged(session):
+        return 0
+    first = name.items[0] if name.items else None
+    return first.number if first and first.refusal is None and is_close(first.line) else None
+
+
+def is_judged(session: Session) -> bool:
+    """Whether the session has a command without an answer."""
+    return session.stage in (Stage.BESIDE, Stage.TOLD) and session.beside is not None
+
+
+def holds(step: Step) -> bool:
+    """Whether lines of several sessions wait for one another."""
+    return gate_of(step) is not None or step.front.rounds.at is At.CLOSING
+
+
+def may_begin(step: Step, item: Item, gate: int | None) -> bool:
+    """Whether a line may begin. A CLOSE waits for all commands before it, and those behind it wait for it."""
+    if gate is None or item.refusal is not None or not is_command(item.line):
+        return True
+    return not is_waited_for(step, lambda other: other.number < item.number) if is_close(item.line) else item.number < gate
+
+
+def is_waited_for(step: Step, counts: Callable[[Item], bool]) -> bool:
+    """Whether a command has no answer yet: the server has it or is about to get it, or it waits, and counts."""
+    if any(is_judged(session) for session in step.front.sessions):
+        return True
+    items = (item for name in step.front.names.values() for item in name.items)
+    return any(item.refusal is None and is_command(item.line) and counts(item) for item in items)
+
+
+def close_by_clock(step: Step, place: int) -> None:
+    """If a round's time is over, and all its commands are answered, closes it. If that would end the auction, the auctioneer has to do it,
+    unless the plan says so."""
+    front, (mine, session) = step.front, desk_of(step)
+    if front.rounds.at is not At.CLOSING or place != mine or session.stage is not Stage.FREE or front.phase not in SERVES:
+        return
+    if is_waited_for(step, lambda item: item.round == front.rounds.round):
+        return
+    if front.books.would_end() and not front.rounds.ends:
+        rounds.hold(step)
+        return
+    put_beside(step, place, front.setting.desk, b"CLOSE %d" % (front.ledger.used.get(None, 0) + 1), None)
 
 
 def is_dropped(step: Step, item: Item) -> bool:
@@ -90,8 +176,8 @@ def is_dropped(step: Step, item: Item) -> bool:
 def take_beside(step: Step, places: tuple[int, ...]) -> None:
     """These commands are on the disk, so the next start would find them after a crash: they may go to the server."""
     for place, session in enumerate(step.front.sessions if step.front.phase in SERVES else ()):
-        if session.stage == Stage.BESIDE and session.beside in places and session.item:
-            if is_dropped(step, session.item):
+        if session.stage == Stage.BESIDE and session.beside in places and session.beside is not None:
+            if session.item and is_dropped(step, session.item):
                 give_back(step, session.beside)
                 clients.drop(step, session.item.connection)
                 free(step, place)
@@ -110,8 +196,8 @@ def take_answer(step: Step, place: int, answer: bytes) -> None:
         free(step, place)
         ask_for_board(step)
     elif session.purpose == For.CLOSE:
-        tell_close(step, answer)
         free(step, place)
+        tell_close(step, answer)
     elif step.front.phase in SERVES:
         judge(step, place, answer)
 
@@ -143,6 +229,7 @@ def release(step: Step) -> None:
             continue
         step.set(ledger=step.front.ledger.accept().use(found.line))
         step.do(found.entry(step.front.ledger.count))
+        rounds.took(step, found.line)
         if found.session is not None:
             step.set_session(found.session, entry=step.front.ledger.written)
 
@@ -153,19 +240,23 @@ def note_foreign(step: Step, foreign: Foreign) -> None:
     step.say(f"{numbers} stand in no record: this front didn't tell them, and {WHERE_THE_AUDIT_ENDS}")
     step.write("foreign", **{"from": foreign.first, "to": foreign.last})
     step.set_ledger(count=foreign.last, has_strangers=True)
+    step.set(books=step.front.books.took_unknown())
 
 
 def leave(step: Step, place: int) -> None:
     """Sends a session's answer, if its entry and all entries before that are on the disk."""
     session, ledger = step.front.sessions[place], step.front.ledger
-    if session.item is None or session.entry is None or session.entry > ledger.synced:
+    if session.entry is None or session.entry > ledger.synced:
         return
     if session.beside is not None:
         step.set_ledger(free=(*ledger.free, session.beside))
-    clients.answer(step, session.item.connection, session.answer)
+    if session.item:
+        clients.answer(step, session.item.connection, session.answer)
     free(step, place)
-    if session.line.startswith(b"CLOSE ") and number_of(session.answer):
+    if is_close(session.line) and number_of(session.answer):
         tell(step, place, b"SHOW", For.CLOSE)
+    elif session.item is None:
+        rounds.was_refused(step, session.answer)
 
 
 def give_back(step: Step, beside: int) -> None:
@@ -175,8 +266,10 @@ def give_back(step: Step, beside: int) -> None:
 
 
 def note(step: Step, name: str, line: bytes, answer: bytes) -> None:
-    """Logs a line that changed nothing."""
-    step.note("answered", name=name, line=text_of(line), answer=text_of(answer))
+    """Logs a line that changed nothing, without tokens: a client may have sent one in the wrong place. The log itself leaves out what may be
+    one, but for names and numbers."""
+    words = [b".." if len(word) >= LEAST_TOKEN and step.front.tokens.find(word) else word for word in line.split(b" ")]
+    step.note("answered", name=name, line=text_of(b" ".join(words)), answer=text_of(answer))
 
 
 def tell_close(step: Step, shown: bytes) -> None:
@@ -184,20 +277,37 @@ def tell_close(step: Step, shown: bytes) -> None:
     number, digest = step.front.ledger.place
     step.do(Publish(f"{text_of(shown)} RECORD {number} {digest}"))
     look_whether_over(step, shown)
+    rounds.take_shown(step, shown)
 
 
 def look_whether_over(step: Step, shown: bytes) -> None:
-    """If the auction is over, the front ends some time later."""
+    """If the auction is over, the front ends some time later, by the limits in force then."""
     if OVER in shown:
         seconds = step.front.limits.after_end_seconds
         step.say(f"the auction is over; the front stops in {seconds} seconds")
-        step.set(over_at=step.front.time + seconds)
+        step.set(over_since=step.front.time)
         step.do(Wake(seconds))
 
 
 def ask_for_board(step: Step, *questions: tuple[int, bytes]) -> None:
-    """Takes questions of the page, which have the last session for themselves."""
-    step.set(questions=(*step.front.questions, *questions))
+    """Takes questions of the page, which have the last session for themselves. Some the front answers by itself."""
+    for number, line in questions:
+        if own := own_answer(step, line):
+            step.do(AnswerBoard(number, own))
+    step.set(questions=(*step.front.questions, *(one for one in questions if not is_own(one[1]))))
     place = len(step.front.sessions) - 1
     if step.front.questions and step.front.sessions[place].stage == Stage.FREE:
         tell(step, place, step.front.questions[0][1], For.BOARD)
+
+
+def own_answer(step: Step, line: bytes) -> bytes:
+    """The front's own answer to a question of the page: the state of the clock, or the news behind a number that a name may know. Empty if the
+    server answers it."""
+    match text_of(line).split(" "):
+        case ["SCHEDULE"]:
+            return desk.schedule_line(step.front)
+        case ["EVENT", number, name] if number.isdigit() and name in step.front.setting.roles:
+            return news.next_line(step.front, name, int(number), step.front.ledger.synced)
+        case ["READ", name]:
+            return b"READ %d" % step.front.read.get(name, 0)
+    return refused("line") if is_own(line) else b""

@@ -3,12 +3,15 @@ import enum
 from collections.abc import Mapping
 from dataclasses import dataclass, field
 
+from hpb.front.core.books import Books
+from hpb.front.core.clock import Closing, Plan, Rounds
 from hpb.front.core.events import Left
 from hpb.front.core.ledger import Ledger
 from hpb.front.limits import BURST_SECONDS, Limits
-from hpb.front.rights import Role
+from hpb.front.rights import AUCTIONEER, Role
 from hpb.front.tokens import Token, Tokens
 from hpb.record.entries import Entry
+from hpb.record.news import News
 from hpb.rules.tree import Tree
 
 # The first pause before a server that didn't come up is started again, in seconds. Each further pause is twice as long, up to a limit.
@@ -37,7 +40,8 @@ class Phase(enum.IntEnum):
 @dataclass(frozen=True)
 class Setting:
     """The parts of a front that stay the same while it runs. `sessions` counts those of names; a board has one more. `record` is the name
-    of the record's file. `starts_server` says whether the front starts the server itself."""
+    of the record's file. `starts_server` says whether the front starts the server itself. `plan` is that of the rounds, if they keep
+    time."""
 
     tree: Tree
     roles: Mapping[str, Role]
@@ -47,6 +51,14 @@ class Setting:
     may_be_foreign: bool = False
     record: str = "the record"
     address: str = ""
+    plan: Plan | None = None
+    closing: Closing = Closing()
+
+    # The auctioneer's name.
+    desk: str = field(init=False)
+
+    def __post_init__(self) -> None:
+        object.__setattr__(self, "desk", next(name for name, role in self.roles.items() if role.kind == AUCTIONEER))
 
 
 class Going(enum.Enum):
@@ -59,12 +71,15 @@ class Going(enum.Enum):
 
 @dataclass(frozen=True)
 class Item:
-    """A waiting line, with its connection and token. If the front refuses the line, `refusal` is the word that says why."""
+    """A waiting line, with its connection and token. If the front refuses the line, `refusal` is the word that says why. `number` counts
+    lines in the order in which they were taken, and `round` is the round that was open then, or 0 if none was."""
 
     connection: int
     token: Token
     line: bytes
     refusal: str | None = None
+    number: int = 0
+    round: int = 0
 
 
 @dataclass(frozen=True)
@@ -125,7 +140,7 @@ class Stage(enum.Enum):
 @dataclass(frozen=True)
 class Session:
     """A session with the server, which works on one line at a time. `turns` are the names with waiting lines, in the order of their
-    turns."""
+    turns. A CLOSE by the clock has no `item`."""
 
     turns: tuple[str, ...] = ()
     stage: Stage = Stage.FREE
@@ -190,10 +205,20 @@ class Front:
     server: Server = Server()
     finding: Finding = Finding()
     questions: tuple[tuple[int, bytes], ...] = ()
-    # When the front ends after the auction is over; when its end began; and how many lines had no answer in time.
-    over_at: float | None = None
+    # When the auction was over; when the front's end began; and how many lines had no answer in time.
+    over_since: float | None = None
     stopped_at: float = 0.0
     left: int = 0
+    # How many lines were taken. Below: the rounds; the commands of the open one; the last news; how many there were for all, and for each name;
+    # and how many each name has read.
+    taken: int = 0
+    # Whether a CLOSE held lines of other sessions.
+    is_held: bool = False
+    rounds: Rounds = Rounds()
+    books: Books = Books()
+    news: tuple[News, ...] = ()
+    told: Mapping[str, int] = field(default_factory=dict)
+    read: Mapping[str, int] = field(default_factory=dict)
 
     @property
     def waiting(self) -> int:

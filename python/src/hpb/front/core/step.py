@@ -1,9 +1,10 @@
 """The step from one state of a front to the next."""
-from hpb.front.core import clients, ending, finding, serving, sessions
+from hpb.front.core import clients, ending, finding, rounds, serving, sessions
 from hpb.front.core.effects import Effect
 from hpb.front.core.events import (
-    Answered, BesideEmptied, BoardAsks, BoardUp, Came, Event, Failed, Gone, Line, LinesEnded, OfRecord, Opened, RecordOpened, Reloaded,
-    ServerEnded, ServerFailed, ServerGone, ServerUp, SessionOpened, StandsBeside, Stop, Stuffed, Synced, Tick, TooLong, Waited,
+    Answered, BesideEmptied, BoardAsks, BoardUp, Came, ClockRead, Event, Failed, Gone, Line, LinesEnded, OfRecord, Opened, RecordOpened,
+    Reloaded, ServerEnded, ServerFailed, ServerGone, ServerUp, SessionOpened, StandsBeside, Stop, Stuffed, Synced, Tick, TooLong,
+    Unpublished, Waited,
 )
 from hpb.front.core.state import Front, Phase
 from hpb.front.core.stepping import Step
@@ -17,8 +18,17 @@ def step(front: Front, event: Event, clock: float) -> tuple[Front, list[Effect]]
     taken = Step(front)
     taken.set(time=front.time + max(0.0, clock - front.clock), clock=clock)
     take(taken, event)
-    # An entry that reaches the disk may let any session's answer leave. After other events, only changed sessions can go on.
-    sessions.go_on(taken, range(len(front.sessions)) if isinstance(event, Synced) else sorted(taken.touched))
+    # An entry that reaches the disk may let any session's answer leave, and a CLOSE holds all. After other events, only changed sessions can
+    # go on.
+    is_held = sessions.holds(taken)
+    is_for_all = is_held or front.is_held or isinstance(event, Synced)
+    sessions.go_on(taken, range(len(front.sessions)) if is_for_all else sorted(taken.touched))
+    if is_held and not sessions.holds(taken):
+        # A CLOSE was refused, so those behind it don't wait any more.
+        is_held = False
+        sessions.go_on(taken, range(len(front.sessions)))
+    if is_held is not front.is_held:
+        taken.set(is_held=is_held)
     finding.go_on(taken)
     ending.go_on(taken)
     return taken.front, taken.effects
@@ -39,8 +49,12 @@ def take(step: Step, event: Event) -> None:
             finding.admit(step, line)
         case BoardAsks(number, line):
             sessions.ask_for_board(step, (number, line))
+        case Unpublished(line):
+            ending.take_unpublished(step, line)
         case Tick():
             tick(step)
+        case ClockRead():
+            rounds.take_reading(step, event)
         case Stop():
             ending.stop(step)
         case Failed(why):
@@ -66,5 +80,6 @@ def tick(step: Step) -> None:
     auction."""
     clients.sweep(step)
     serving.look_at_time(step)
-    if step.front.over_at is not None and step.front.time >= step.front.over_at:
+    since = step.front.over_since
+    if since is not None and step.front.time >= since + step.front.limits.after_end_seconds:
         ending.stop(step)

@@ -1,0 +1,125 @@
+"""Threads, and what they share, with memory that is refused at any step."""
+from __future__ import annotations
+
+import asyncio
+import threading
+import time
+from collections.abc import Callable
+
+import pytest
+
+from hpb import threads
+from hpb.threads import Lines, Places, Signal, Thread, Worker, in_thread, keep
+
+SECONDS = 10
+
+
+def refuse(*_: object, **__: object) -> None:
+    """A request for memory that is refused."""
+    raise MemoryError
+
+
+def test_a_thread_that_doesnt_begin_is_missed(monkeypatch: pytest.MonkeyPatch) -> None:
+    monkeypatch.setattr(threads, "BEGIN_SECONDS", 0.1)
+    monkeypatch.setattr("_thread.start_new_thread", lambda run, arguments: 1)
+    with pytest.raises(RuntimeError, match="doesn't begin"):
+        Thread(lambda: None).start()
+
+
+@pytest.mark.filterwarnings("ignore::pytest.PytestUnraisableExceptionWarning")
+def test_a_thread_that_fails_has_ended() -> None:
+    thread = Thread(refuse).start()
+    assert eventually(lambda: thread.has_ended)
+
+
+def test_each_result_and_each_fault_of_a_worker_is_handed_over() -> None:
+    def half(number: int) -> int:
+        if number % 2:
+            raise ValueError(number)
+        return number // 2
+
+    async def works() -> None:
+        worker = Worker(half)
+        assert await asyncio.gather(*(worker.do(number) for number in range(0, 100, 2))) == list(range(50))
+        with pytest.raises(ValueError, match="7"):
+            await worker.do(7)
+        assert await worker.do(8) == 4
+
+    asyncio.run(asyncio.wait_for(works(), SECONDS))
+
+
+def test_a_call_whose_word_is_lost_is_waited_for_no_longer_than_a_moment(monkeypatch: pytest.MonkeyPatch) -> None:
+    async def waits() -> int:
+        monkeypatch.setattr(asyncio.get_running_loop(), "call_soon_threadsafe", refuse)
+        return await in_thread(lambda: 7)
+
+    assert asyncio.run(asyncio.wait_for(waits(), SECONDS)) == 7
+
+
+@pytest.mark.filterwarnings("ignore::pytest.PytestUnraisableExceptionWarning")
+def test_a_thread_that_ends_before_its_call_is_missed(monkeypatch: pytest.MonkeyPatch) -> None:
+    monkeypatch.setattr(threads._Job, "do", refuse)
+
+    async def waits() -> None:
+        await in_thread(lambda: 7)
+
+    with pytest.raises(MemoryError, match="the thread has ended"):
+        asyncio.run(asyncio.wait_for(waits(), SECONDS))
+
+
+def test_lines_come_in_their_order_and_stay_until_they_are_done_with() -> None:
+    lines = Lines(2)
+    assert lines.first(0.01) is None and lines.is_empty()
+    assert lines.add(b"a") and lines.add(b"b") and not lines.add(b"c")
+    assert lines.first(1) == lines.first(1) == b"a"
+    lines.drop()
+    assert lines.first(1) == b"b" and not lines.is_empty()
+    lines.drop()
+    assert lines.first(0.01) is None
+
+
+def test_a_line_that_comes_later_wakes_who_waits() -> None:
+    lines = Lines(2)
+    began = time.monotonic()
+    threading.Timer(0.1, lambda: lines.add(b"a")).start()
+    while lines.first(SECONDS) is None:
+        pass
+    assert time.monotonic() - began < SECONDS / 2
+
+
+def test_a_signal_wakes_all_who_wait_and_stays() -> None:
+    signal, woken = Signal(), list[bool]()
+    assert not signal.wait(0)
+    for _ in range(3):
+        Thread(lambda: woken.append(signal.wait(SECONDS))).start()
+    signal.give()
+    signal.give()
+    assert eventually(lambda: woken == [True] * 3) and signal.wait(0)
+
+
+def test_places_are_given_back() -> None:
+    places = Places(2)
+    assert [places.take() for _ in range(3)] == [True, True, False]
+    places.give_back()
+    assert [places.take() for _ in range(2)] == [True, False]
+
+
+def test_work_goes_on_whatever_fails() -> None:
+    done = list[int]()
+
+    def work() -> None:
+        done.append(1)
+        if len(done) % 2:
+            raise MemoryError
+        time.sleep(0.001)
+
+    Thread(lambda: keep(work, 0.001)).start()
+    assert eventually(lambda: len(done) > 20)
+
+
+def eventually(holds: Callable[[], bool]) -> bool:
+    """Whether this holds within some seconds."""
+    end = time.monotonic() + SECONDS
+    while not holds() and time.monotonic() < end:
+        time.sleep(0.001)
+    return holds()
