@@ -1,8 +1,8 @@
 """Options and fixtures of all tests.
 
-    /usr/bin/python3 -m pytest -n 4 tests --program crates/hpb/out/hpb --program crates/hpb/out/hpb.by-rattle
+    /usr/bin/python3 -m pytest -n 4 tests --program crates/hpb/out/hpb --also crates/hpb/out/hpb.by-rattle
 
-A test that asks for `program` runs once for each program that is named. If the machine lacks the rights or tools that a test needs,
+A test that asks for `program` runs once for each program that is named. Those of OF_THE_PROGRAM also run for each one of `--also`. If the machine lacks the rights or tools that a test needs,
 the test is skipped with the reason. With `--complete` it fails instead, as in the gate.
 """
 
@@ -12,34 +12,37 @@ import os
 import shutil
 import signal
 import tempfile
-from collections.abc import Callable, Iterator
+from collections.abc import Generator, Iterator
 from contextlib import AbstractContextManager, ExitStack, suppress
 from pathlib import Path
-from typing import TypeVar
+from typing import Any, TypeVar
 
 import fronts
 import pytest
 from boards import Tools
 
-from harness import building
+from harness import building, file_calls
 from harness.auctions import Layout
 from harness.conditions import NORMAL, Conditions
 from harness.disks import SOURCE, CutDisk, mounted_disk
+from harness.file_calls import Recorder
 from harness.file_systems import FileSystem, Lacking
+from harness.fixtures import Companion, Lack, Library
 from harness.fronts import with_package
 from harness.namespaces import Network, leave_mounts, new_network
 from harness.programs import Program, Stream
 from harness.serving import Serve, Server
 from harness.users import User
 
-TOP = Path(__file__).resolve().parents[1]
+HERE = Path(__file__).resolve().parent
+TOP = HERE.parent
 BUILT = TOP / "crates" / "hpb" / "out" / "hpb"
 MEMORY = Path("/dev/shm")
 REACHABLE = 0o711
-PROGRAMS = pytest.StashKey[list[Path]]()
+PROGRAMS = pytest.StashKey[tuple[list[Path], list[Path]]]()
+# The folders and modules whose tests look at the program alone, and not at front and tools.
+OF_THE_PROGRAM = ("calls", "failing", "outside", "protocol", "test_stack.py")
 
-Lack = Callable[[object], None]
-Library = Callable[[Path], Path]
 Value = TypeVar("Value")
 
 
@@ -47,8 +50,11 @@ def pytest_addoption(parser: pytest.Parser) -> None:
     """The options of these tests."""
     group = parser.getgroup("hpb")
     group.addoption("--program", action="append", type=Path, help="a built hpb; may be given more than once")
+    group.addoption("--also", action="append", type=Path, default=[], help="another build of it, for the tests of the program alone; may be given more than once")
+    group.addoption("--companions", type=Path, help="a folder with the other programs of crates/, by their names; by default they stand where they are built")
     group.addoption("--complete", action="store_true", help="what the machine lacks for a test makes it fail")
     group.addoption("--cuts", type=int, default=2000, help="how many power cuts are made in all (default 2,000)")
+    group.addoption("--turns", type=int, default=1, help="how often calls fail while a file is served, by other faults each time (default 1)")
     group.addoption("--seed", type=int, help="the one story of power cuts that is told")
     group.addoption("--long", action="store_true", help="run what takes minutes, too")
 
@@ -67,16 +73,18 @@ def pytest_configure(config: pytest.Config) -> None:
 
 
 def pytest_generate_tests(metafunc: pytest.Metafunc) -> None:
-    """One test for each program that is named."""
+    """One test for each program that is named, and of the tests of the program alone for each other build of it."""
     if "built" in metafunc.fixturenames:
-        programs = programs_of(metafunc.config)
+        programs, others = programs_of(metafunc.config)
+        if metafunc.definition.path.relative_to(HERE).parts[0] in OF_THE_PROGRAM:
+            programs = [*programs, *others]
         metafunc.parametrize("built", programs, ids=[program.name for program in programs], scope="session")
 
 
-def programs_of(config: pytest.Config) -> list[Path]:
-    """The programs under test: the same list each time, so that a fixture for one of them lasts for the whole run."""
+def programs_of(config: pytest.Config) -> tuple[list[Path], list[Path]]:
+    """The programs under test, and other builds: the same lists each time, so that a fixture for one of them lasts for the whole run."""
     if PROGRAMS not in config.stash:
-        config.stash[PROGRAMS] = found_programs(config)
+        config.stash[PROGRAMS] = found_programs(config), [program.resolve() for program in config.getoption("--also")]
     return config.stash[PROGRAMS]
 
 
@@ -100,6 +108,16 @@ def pytest_collection_modifyitems(config: pytest.Config, items: list[pytest.Item
             item.add_marker(long)
         if item.get_closest_marker("as_root") and os.geteuid() != 0 and not config.getoption("--complete"):
             item.add_marker(rights)
+
+
+@pytest.hookimpl(hookwrapper=True)  # type: ignore[misc]
+def pytest_runtest_makereport(item: pytest.Item) -> Generator[None, Any, None]:
+    """With `--complete` a test that is left out has failed, unless it is one of those that may be."""
+    outcome = yield
+    report = outcome.get_result()
+    may_be = any(item.get_closest_marker(name) for name in ("long", "busy"))
+    if report.skipped and item.config.getoption("--complete") and not may_be:
+        report.outcome, report.longrepr = "failed", f"it was left out: {report.longrepr}"
 
 
 @pytest.fixture(scope="session")
@@ -134,20 +152,37 @@ def room(place: Path) -> Iterator[Path]:
 
 @pytest.fixture
 def memory() -> Iterator[Path]:
-    """A folder of this test in memory: a sync of it takes no time."""
+    """A folder of this test in memory, that every user may pass through: a sync of it takes no time."""
     with tempfile.TemporaryDirectory(dir=MEMORY if os.access(MEMORY, os.W_OK) else None) as folder:
-        yield Path(folder)
+        made = Path(folder)
+        made.chmod(REACHABLE)
+        yield made
 
 
 @pytest.fixture(scope="session")
 def program(built: Path, place: Path, request: pytest.FixtureRequest) -> Program:
     """The program under test: a copy that every user may run, made once in a run."""
-    copy = place / f"program-{programs_of(request.config).index(built)}" / "hpb"
+    programs, others = programs_of(request.config)
+    copy = place / f"program-{[*programs, *others].index(built)}" / "hpb"
     if not copy.exists():
         copy.parent.mkdir(REACHABLE)
         shutil.copyfile(built, copy)
         copy.chmod(0o755)
     return Program(copy)
+
+
+@pytest.fixture(scope="session")
+def companion(request: pytest.FixtureRequest, lack: Lack) -> Companion:
+    """Another program of crates/, which is there for tests alone: `companion("hpb_bench")`."""
+    folder: Path | None = request.config.getoption("--companions")
+
+    def finds(name: str) -> Program:
+        path = TOP / "crates" / name / "out" / name if folder is None else folder.resolve() / name
+        if not path.exists():
+            lack(f"{name} isn't built")
+        return Program(path)
+
+    return finds
 
 
 @pytest.fixture(params=list(Layout), ids=[layout.name.lower() for layout in Layout])
@@ -247,6 +282,16 @@ def library(place: Path, lack: Lack) -> Library:
         return made[source]
 
     return builds
+
+
+@pytest.fixture
+def recorder(program: Program, library: Library, memory: Path) -> Recorder:
+    """Writes down the calls that the program makes. The test is left out if it doesn't make them by the C library."""
+    made = Recorder(library(file_calls.SOURCE), memory)
+    assert program.run("--version", conditions=made.conditions()).status == 0
+    if not made.sees():
+        pytest.skip("the program doesn't make its calls by the C library")
+    return made
 
 
 @pytest.fixture(scope="session")

@@ -4,7 +4,7 @@ from __future__ import annotations
 
 import os
 import subprocess
-from collections.abc import Iterator
+from collections.abc import Callable, Iterator
 from contextlib import contextmanager
 from pathlib import Path
 
@@ -32,10 +32,10 @@ def without_devices() -> None:
 
 
 @pytest.fixture(params=[None, without_proc], ids=["proc", "no proc"])
-def seeing(request: pytest.FixtureRequest) -> Conditions:
+def seeing(request: pytest.FixtureRequest, lack: Callable[[object], None]) -> Conditions:
     """With the system's information about streams, and without it."""
     if request.param and os.geteuid() != 0:
-        pytest.skip("only root can hide /proc")
+        lack("only root can hide /proc")
     return Conditions(last=request.param)
 
 

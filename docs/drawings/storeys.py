@@ -26,7 +26,7 @@ class Storey:
 # From the top down. Each crate stands in one of them, and depends only on crates of its own storey and of those below.
 STOREYS: Final = (
     Storey("text", "lines and files in, answers out", "thread", (
-        "hpb", "hpb_program", "hpb_words", "hpb_run", "hpb_serve", "hpb_server", "hpb_define", "hpb_reasons", "hpb_wire")),
+        "hpb", "hpb_program", "hpb_messages", "hpb_words", "hpb_run", "hpb_serve", "hpb_server", "hpb_define", "hpb_reasons", "hpb_wire")),
     Storey("edge", "many threads", "torn", ("hpb_house", "hpb_rings", "hpb_board")),
     Storey("device", "bytes that survive a crash", "kept", (
         "hpb_engine", "hpb_format", "hpb_recover", "hpb_journal", "hpb_slots", "hpb_codec", "hpb_disk")),
@@ -34,8 +34,8 @@ STOREYS: Final = (
         "hpb_auction", "hpb_units", "hpb_prices", "hpb_winners", "hpb_bids", "hpb_tree", "hpb_money")),
     Storey("meaning", "definitions, laws", "plain", ("hpb_rules",)),
     Storey("tests", "no part of the program", "test", (
-        "hpb_session_rows", "hpb_simulation", "hpb_house_rows", "hpb_run_rows", "hpb_engine_rows", "hpb_rows", "hpb_faults", "hpb_tried",
-        "hpb_bench")),
+        "hpb_test_sessions", "hpb_test_simulation", "hpb_test_house", "hpb_test_run", "hpb_test_engine", "hpb_test_auction",
+        "hpb_test_memory", "hpb_tried", "hpb_bench")),
 )
 
 

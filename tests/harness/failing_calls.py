@@ -1,8 +1,9 @@
 """Calls of a program to the system that fail, wait or are left out, by a library that is loaded before the C library
-(examples/fail-calls.c), and memory that both have."""
+(tests/fail_calls.c), and memory that both have."""
 
 from __future__ import annotations
 
+import contextlib
 import enum
 import errno
 import mmap
@@ -11,12 +12,13 @@ import struct
 from dataclasses import dataclass
 from pathlib import Path
 
-from harness.auctions import EXAMPLES
+from harness.building import SOURCES
 from harness.conditions import NORMAL, Conditions
 
-SOURCE = EXAMPLES / "fail-calls.c"
+SOURCE = SOURCES / "fail_calls.c"
 # A call that is as good as the last one.
 EVER = 1 << 62
+MOST_RELEASED = 4096
 DELAY = struct.Struct("=q")
 RULE = struct.Struct("=9q")
 RULES = 2
@@ -93,16 +95,29 @@ class FailingCalls:
         self._file.write_bytes(bytes(DELAY.size + RULES * RULE.size))
         with self._file.open("r+b") as opened:
             self._shared = mmap.mmap(opened.fileno(), 0)
-        os.mkfifo(folder / f"{self._file.name}.gate")
+        gate = folder / f"{self._file.name}.gate"
+        os.mkfifo(gate)
+        self._gate = os.open(gate, os.O_RDWR | os.O_NONBLOCK)
         self.forget()
 
-    def conditions(self) -> Conditions:
-        """Those of a program whose calls may fail."""
-        return NORMAL.with_library(self._library, FAULTS=str(self._file))
+    def conditions(self, beside: Conditions = NORMAL) -> Conditions:
+        """Those of a program whose calls may fail. A library that is loaded before sees the calls as they then went."""
+        return beside.with_library(self._library, FAULTS=str(self._file))
 
-    def forget(self) -> None:
-        """Nothing fails any more, and all is counted anew."""
-        self._shared[:] = DELAY.pack(0) + NONE * RULES
+    def forget(self, delay: int = 0) -> None:
+        """Nothing fails or is released any more, and all is counted anew. Each sync takes so many microseconds more than its own time."""
+        with contextlib.suppress(BlockingIOError):
+            os.read(self._gate, MOST_RELEASED)
+        self._shared[:] = DELAY.pack(delay) + NONE * RULES
+
+    def release(self) -> None:
+        """Lets one more call go on that is held."""
+        os.write(self._gate, b"x")
+
+    def close(self) -> None:
+        """Ends the use of the calls."""
+        os.close(self._gate)
+        self._shared.close()
 
     def set(self, *rules: Rule) -> None:
         """From now on, up to two rules at a time. What they count begins anew. The kinds of calls come last: they begin a rule."""

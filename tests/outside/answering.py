@@ -43,10 +43,10 @@ class Lines:
         assert program.count(file) == self.count
 
 
-def same(found: object, wanted: object) -> None:
+def same(found: object, wanted: object, what: str = "") -> None:
     """AssertionError unless they are the same, with the front and the end of each: a difference of long texts takes long to make."""
     is_same = found == wanted
-    assert is_same, f"{shortened(found)}, wanted: {shortened(wanted)}"
+    assert is_same, f"{what}: {shortened(found)}, wanted: {shortened(wanted)}"
 
 
 def shortened(value: object) -> str:

@@ -10,13 +10,13 @@ from harness.auctions import PAGE, Layout, definition
 RULES = json.loads(definition())
 NODES: list[str] = [node["name"] for node in RULES["nodes"]]
 BIDDERS: list[str] = [bidder["name"] for bidder in RULES["bidders"]]
-OPEN = b"\xa5"
+OPEN, CLOSED = b"\xa5", b"\0"
 MAGIC = b"HPBAUCT1"
 # The formats of states. The first is that of files that an earlier program made, and has no waivers.
 FIRST_FORMAT, WAIVERS_FORMAT = 1, 2
 KINDS = {"BID": 1, "CLOSE": 2, "STAGE": 3, "WAIVE": 4}
 NODES_AT, BIDDERS_AT = 48, 3096
-HEAD_AT = 16
+HEAD_AT, HEAD_SIZE = 16, 3 * PAGE - 16
 JOURNAL_AT, CELL = 13 * PAGE, 512
 FRAME = {Layout.PAGES: PAGE, Layout.CELLS: 3 * CELL}
 # How many records the first cell of a batch has, and each other one.
@@ -74,7 +74,7 @@ class Image:
 
     def frame(self, index: int) -> int:
         """The place of the frame of a batch."""
-        return JOURNAL_AT + FRAME[self.layout] * (index % self.journal)
+        return frame_at(self.layout, self.journal, index)
 
     def put_batch(self, index: int, first: int, lines: Sequence[str]) -> int:
         """Puts a batch into its frame, whose first command has this number, and gives the length of its body."""
@@ -82,6 +82,11 @@ class Image:
         self.put(self.frame(index), OPEN)
         self.put(self.frame(index) + 16, body)
         return len(body)
+
+
+def frame_at(layout: Layout, journal: int, index: int) -> int:
+    """The place of the frame of a batch."""
+    return JOURNAL_AT + FRAME[layout] * (index % journal)
 
 
 def sender_of(line: str) -> str:

@@ -12,7 +12,9 @@ from pathlib import Path
 import pytest
 
 from harness.auctions import EXAMPLES
-from harness.programs import Program, Ran, format_words, shown
+from harness.conditions import Conditions
+from harness.full_disks import filled, no_signal
+from harness.programs import Program, Ran, format_words
 from harness.serving import ADDRESS, free_port
 from harness.streams import WITHOUT_SIGNAL, full, not_waiting, opened, unread
 from outside.lies import Liar
@@ -20,7 +22,6 @@ from outside.texts import CLOSED, COAST, EMPTY, FULL, NO_FILE, NODES, SHOWN, TOO
 
 SCRIPT = COAST + b"SHOW\n"
 MOST_BYTES = 1_000_000_000
-SECONDS = 20
 # Standard outputs that fail, and the message about each.
 OUTPUTS = [pytest.param(full, FULL, id="full"), pytest.param(unread, CLOSED, id="closed")]
 Output = Callable[[], AbstractContextManager[int]]
@@ -165,22 +166,20 @@ def test_a_byte_more_in_a_run_is_told(program: Program, room: Path, file: Path) 
 LINES = b"BID ann 1 bay 1000\nBID ann 2 cape 1500\nSHOW\n"
 
 
-def on_full_disk(program: Program, file: Path, output: int) -> subprocess.CompletedProcess[bytes]:
+def on_full_disk(program: Program, file: Path, output: int) -> tuple[str, str, int]:
     """A run in which a write behind the third page of a file fails."""
-    words = [str(word) for word in (EXAMPLES / "full-disk", program.path, "run", "--file", file)]
-    return subprocess.run(words, input=LINES, stdout=output, stderr=subprocess.PIPE, timeout=SECONDS)
+    return filled(program.start("run", "--file", file, input=subprocess.PIPE, output=output, conditions=Conditions(last=no_signal)), LINES)
 
 
 def test_a_run_is_told_that_its_disk_fails(program: Program, file: Path) -> None:
-    ran = on_full_disk(program, file, subprocess.PIPE)
-    told = shown(ran.stdout), shown(ran.stderr), ran.returncode
+    told = on_full_disk(program, file, subprocess.PIPE)
     assert told == ("ERR 91 device\nERR 93 failed\n" + SHOWN, disk_of(file), 1)
 
 
 def test_a_run_is_told_of_both_its_output_and_its_disk(program: Program, file: Path) -> None:
     with full() as output:
-        ran = on_full_disk(program, file, output)
-    assert (shown(ran.stderr), ran.returncode) == (stream_of_run(FULL, file) + disk_of(file), 1)
+        _, said, status = on_full_disk(program, file, output)
+    assert (said, status) == (stream_of_run(FULL, file) + disk_of(file), 1)
 
 
 @pytest.mark.parametrize("lie", ["wrong", "blamed", "ill", "endless"])

@@ -284,6 +284,7 @@ def house(program: Program, file: Path, layout: Layout, count: int, seconds: flo
     return end >= count
 
 
+@pytest.mark.busy
 def test_a_house(program: Program, file: Path, first: None) -> None:
     """A house of 65,536 batches. The rest is left out if the machine has much else to do."""
     if not house(program, file, Layout.PAGES, HOUSE, BUSY):

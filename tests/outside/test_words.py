@@ -9,7 +9,7 @@ import pytest
 from harness.programs import Program
 from outside.lies import Liar
 
-VERSION = "hpb 0.1.0\nrattle-kit-13b logic dac8208d650f15bf\n"
+VERSION = "hpb 0.1.0\nrattle-kit-13f logic dac8208d650f15bf\n"
 # Characters that can't be seen as they are, and how each is shown: those that end a line or a word, and those that turn it round.
 CONTROLS = {"\n": "\\n", "\t": "\\t", **{letter: f"\\u{{{ord(letter):x}}}" for letter in "\x1b\x7f\x9b\u202e\u2028\u200b"}}
 UNSEEN = (

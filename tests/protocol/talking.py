@@ -8,23 +8,18 @@ page, and <EOF> at the end of a line for its missing LF. Letters up to U+00FF st
 
 from __future__ import annotations
 
-import fcntl
-import os
 import re
-import resource
 import shlex
-import signal
-import struct
 import subprocess
-import termios
 from collections.abc import Callable
 from dataclasses import dataclass
 from pathlib import Path
 
 from harness.auctions import Layout
 from harness.conditions import NORMAL, Conditions
+from harness.full_disks import filled, no_signal
 from harness.programs import Program, Ran, format_words, shown
-from harness.serving import Server, wait_until
+from harness.serving import Server
 from harness.streams import read_bytes
 from protocol.page import PAGE
 
@@ -34,8 +29,6 @@ SHOWN = "ROUND 1 STAGE 1 OPEN REVENUE 0 COUNT {}\n"
 EMPTY = SHOWN.format(0)
 WORDS = {row[0]: row[1].strip("`") for row in PAGE.table("Number", "Word", "When", "What to do next").rows}
 AT_A_TERMINAL = [said for row in PAGE.table("Of", "Its line").rows for said in re.findall("`(hpb: .*?)`", row[1])]
-# A file can't be written behind its third page on a disk that is full.
-FULL = 3 * 4096
 FULL_DISK = "hpb: 91 device: the disk of F failed: File too large (os error 27). All that was answered by OK is kept."
 
 
@@ -83,23 +76,6 @@ def check_said(ran: Ran) -> None:
         for line in ran.errors.splitlines():
             said = re.match(r"hpb: (\d\d) ([a-z]+): .", line)
             assert line in AT_A_TERMINAL or (said and WORDS.get(said[1]) == said[2]), line
-
-
-def no_signal() -> None:
-    """A write that is too long fails, and no signal ends the program."""
-    signal.signal(signal.SIGXFSZ, signal.SIG_IGN)
-
-
-def fill_disk(process: subprocess.Popen[bytes]) -> None:
-    """From now on it can write no file behind its third page."""
-    most = resource.prlimit(process.pid, resource.RLIMIT_FSIZE)[1]
-    resource.prlimit(process.pid, resource.RLIMIT_FSIZE, (FULL, most))
-
-
-def unread(pipe: int) -> int:
-    """How many bytes of a pipe nobody has read."""
-    count: int = struct.unpack("i", fcntl.ioctl(pipe, termios.FIONREAD, b"\0" * 4))[0]
-    return count
 
 
 class Talk:
@@ -183,15 +159,9 @@ class Hpb:
         lines, answers = transcript(text)
         conditions = Conditions(folder=self.folder, last=no_signal)
         process = self.program.start(*shlex.split(words), input=subprocess.PIPE, output=output, conditions=conditions)
-        assert process.stdin is not None
-        pipe = process.stdin.fileno()
-        os.write(pipe, data(lines)[:1])
-        wait_until(lambda: not unread(pipe) or process.poll() is not None, SECONDS, "the first byte is read")
-        fill_disk(process)
-        written, errors = process.communicate(data(lines)[1:], SECONDS)
-        check_said(Ran("", shown(errors), process.returncode, 0))
-        wanted = (answers if output == subprocess.PIPE else "", said, 1)
-        assert (shown(written), shown(errors)[: len(said)], process.returncode) == wanted, words
+        written, errors, status = filled(process, data(lines))
+        check_said(Ran("", errors, status, 0))
+        assert (written, errors[: len(said)], status) == (answers if output == subprocess.PIPE else "", said, 1), words
 
 
 # Compares the answers of a transcript with those of a program, on a definition: that of the page, or another.

@@ -10,10 +10,11 @@ import pytest
 
 from harness.auctions import FIRST_ROUND, Layout, commands
 from harness.conditions import NORMAL, Conditions
+from harness.full_disks import fill_disk
 from harness.serving import Server
 from harness.streams import WITHOUT_SIGNAL, full, unread
 from protocol.page import PAGE, codes, sentences
-from protocol.talking import EMPTY, FIRST, FULL_DISK, SHOWN, Hpb, fill_disk
+from protocol.talking import EMPTY, FIRST, FULL_DISK, SHOWN, Hpb
 
 SLOTS = slice(3 * 4096, 13 * 4096)
 ZEROS = bytes(17 * 4096)

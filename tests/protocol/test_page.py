@@ -33,7 +33,7 @@ ELSEWHERE: dict[str, str] = {
     """A session sees every .. An `OK` leaves when its command is durable. .. No kill of the program ..""": (
         "def test_a_server_that_is_killed_keeps_what_it_answered(; def test_a_power_cut_loses_nothing_that_was_promised("
     ),
-    """Nobody can connect ..""": "if is_served(address, server.port)] == []",
+    """Nobody can connect ..""": "if is_served(address, port)] == []",
     """| `nodes` | list of .. | `bidders` | list of ..""": "65 nodes on eight levels; nodes: 65 licences are more than 64; nodes[8]: on level 9",
     """A session waits ..""": "def test_a_session_that_misbehaves_stops_nobody_else(",
     """So a client sends one .. It never gives a ..""": (
@@ -51,7 +51,7 @@ ELSEWHERE: dict[str, str] = {
     ..""": "def test_a_damaged_file(; def test_an_auction_whose_length_changed(; def test_no_file(",
     """standard output ..""": "writing: nothing more was taken",
     """In a script, and .. If there isn't even .. `format` and `check` .. memory was refused ..""": (
-        'self.each("run",; self.each("format",; self.each("check",'
+        "def try_run(; def try_format(; def try_check("
     ),
     """memory, or a thread ..""": "memory was refused, or a thread, which was told then: free some memory,",
     """The usual mistakes .. `hpb` accepts some .. a key that stands .. a second definition .. stages that fall .. a node for which .. a bidder who
@@ -79,6 +79,9 @@ ELSEWHERE: dict[str, str] = {
     """one could not be ..""": "a connection could not be accepted, and its session has ended:",
     """a thread was refused ..""": "a thread was refused (ulimit -u tells how many there may be): sessions that have one are served to their end,",
     """the file was cut ..""": "def test_it_is_told_at_the_end(; def test_a_name_that_is_replaced_beside_another_is_told(",
+    """An answer to these has .. `ERR front word` is .. A command that it refuses ..""": (
+        "def test_answers_of_a_front_are_read_and_written(; def test_a_bid_of_another_round_is_sent_nowhere("
+    ),
     """Several answers ..""": "def check_one_moment(folder) or def test_what_is_shown_is_of_one_moment(",
 }
 

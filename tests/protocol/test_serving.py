@@ -15,10 +15,11 @@ import pytest
 
 from harness.auctions import EXAMPLES, Layout
 from harness.conditions import Conditions
+from harness.full_disks import fill_disk, no_signal
 from harness.programs import Program
 from harness.serving import ADDRESS, Client, Serve, free_port, read_line
 from protocol.page import PAGE, TOP, codes, sentences
-from protocol.talking import EMPTY, FULL_DISK, SHOWN, fill_disk, no_signal, transcript, without_places
+from protocol.talking import EMPTY, FULL_DISK, SHOWN, transcript, without_places
 
 MOST_BYTES = 1_000_000_000
 

@@ -2,7 +2,7 @@
 #![tactic(auto)]
 
 use hpb_program::{
-    Led, Noted, Waiting, hold_stack, hold_streams, program, refuse_streams, refuse_words,
+    Console, Led, Noted, Waiting, hold_stack, hold_streams, program, refuse_streams, refuse_words,
 };
 use std::io;
 use std::io::IsTerminal;
@@ -19,18 +19,13 @@ fn main(rt: HostRuntime) -> ExitCode {
         Ok(words) => words,
         Err(error) => return ExitCode::from(refuse_words(&error, led, &mut output, &mut errors)),
     };
-    let is_terminal = rt.stdin().is_terminal();
-    let mut input = Noted::new(Waiting::new(rt.stdin()));
-    let status = program(
-        &rt,
-        rt.alloc(),
-        words.as_slice(),
-        led,
-        &mut input,
-        &mut output,
-        &mut errors,
-        is_terminal,
-    );
+    let mut console = Console {
+        input: Noted::new(Waiting::new(rt.stdin())),
+        output,
+        errors,
+        is_terminal: rt.stdin().is_terminal(),
+    };
+    let status = program(&rt, rt.alloc(), words.as_slice(), led, &mut console);
     ExitCode::from(status)
 }
 

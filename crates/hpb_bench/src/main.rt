@@ -1,6 +1,6 @@
 //! The calls that are timed, and those whose results must hold however often they are made.
 //!
-//! `bench/codec` times calls that take no memory, of bodies, auctions and lists; `examples/take-no-memory` checks that
+//! `bench/codec` times calls that take no memory, of bodies, auctions and lists; `tests/memory/test_no_memory.py` checks that
 //! they take none. `bench/open` times openings, of devices that no program wrote, or of the largest device.
 #![tactic(auto)]
 

@@ -6,7 +6,7 @@ use Rattle.hpb_disk.specs.declared.fate.Fate.{Fate}
 use Rattle.hpb_disk.specs.declared.fate.Fate.TheVariants.{Kept, Lost, Filled}
 use Rattle.hpb_disk.specs.Calls.{Call, after_write, left_of, base_of, pending_of}
 use Rattle.hpb_disk.specs.Calls.Call.{read, wrote, synced, failed, write_failed}
-use Rattle.hpb_disk.specs.Devices.{write_is_torn, torn_self}
+use Rattle.hpb_disk.specs.Traces.{write_is_torn, torn_self}
 use Rattle.hpb_disk.specs.Fates.{struck, stopped}
 use Rattle.hpb_disk.specs.Images.{Torn, TornFrom}
 

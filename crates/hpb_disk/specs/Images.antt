@@ -1,6 +1,5 @@
--- The terms of a device's clauses, for one call and for many. An image is the list of all bytes; a crash may leave any
--- image of a set.
-use Rattle.std.specs.Prelude.{◌≡◌, ◌⊎◌, ℕ, ◌+◌, ◌<◌, ◌≤◌, List, ◌++◌, length, take, drop, Result, MatchResult}
+-- The terms of images. An image is the list of all bytes of a device; a crash may leave any image of a set.
+use Rattle.std.specs.Prelude.{◌≡◌, ℕ, ◌+◌, ◌≤◌, List, ◌++◌, length, take, drop}
 
 -- **Part, put, torn.** `hpb_disk/specs`. Bytes that are put at an offset replace as many bytes there. An image is torn
 -- at an offset if it is the old one except for a number of bytes there, which may be any.
@@ -38,22 +37,3 @@ Only image images = (other : List ℕ) → images other → other ≡ image
 -- Each of the first images is one of the second.
 abbrev pub Within : (List ℕ → Type 0) → (List ℕ → Type 0) → Type 0
 Within images those = (image : List ℕ) → images image → those image
-
--- One call. The moment moves on by one. The images that a crash may have left since an earlier moment are those from
--- before the call and those of the call; none of the former is forgotten.
-pub record Elapses (before now : ℕ) (past since : ℕ → List ℕ → Type 0) (during : List ℕ → Type 0) : Type 0 where
-  pub next : now ≡ before + 1
-  pub nothing_else : (moment : ℕ) (image : List ℕ) → moment ≤ before → since moment image → past moment image ⊎ during image
-  pub keeps : (moment : ℕ) (image : List ℕ) → moment ≤ before → past moment image → since moment image
-
--- Any number of calls. The images that a crash may have left since an earlier moment are those from before the calls
--- and images of this set. After the calls a crash leaves an image of this set.
-pub record LeavesOnly (before now : ℕ) (past since : ℕ → List ℕ → Type 0) (left images : List ℕ → Type 0) : Type 0 where
-  pub later : before ≤ now
-  pub nothing_else : (moment : ℕ) (image : List ℕ) → moment ≤ before → since moment image → past moment image ⊎ images image
-  pub keeps : (moment : ℕ) (image : List ℕ) → moment ≤ before → past moment image → since moment image
-  pub after : Within left images
-
--- The number of failures rises if the call fails, and stays the same if it succeeds.
-abbrev pub CountsFailure : {T E : Type 0} → Result T E → ℕ → ℕ → Type 0
-CountsFailure result old new = MatchResult result (λ _. new ≡ old) (λ _. old < new)

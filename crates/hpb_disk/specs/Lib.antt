@@ -4,8 +4,9 @@ pub mod Laws
 pub mod Replacing
 pub mod Events
 pub mod Asked
+pub mod Device
 pub mod Calls
-pub mod Devices
+pub mod Traces
 pub mod Fates
 pub mod Records
 pub mod MemoryDisks

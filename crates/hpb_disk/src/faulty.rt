@@ -1,10 +1,8 @@
 //! A device that is made to fail: from one call on, or at one call alone.
 ghost use Rattle.std.specs.Prelude.{◌≡◌, ◌+◌, ◌-◌, ◌≤◌, Bool, true, false, [], ◌∷◌, length, IsErr, OnOk};
-ghost use Rattle.hpb_disk.specs.Images.{part, put, Only, TornFrom, Within, Elapses, CountsFailure};
-ghost use Rattle.hpb_disk.specs.Asked.{Asks};
-ghost use Rattle.hpb_disk.specs.Faults.{faults_of, faults_among, is_fault, is_late, passed_since};
-ghost use Rattle.hpb_disk.specs.Behind.{now_behind};
-ghost use Rattle.std.proofs.Math.Nat.{sub-le};
+ghost use Rattle.hpb_disk.specs.Images.{part, put, Only, TornFrom};
+ghost use Rattle.hpb_disk.specs.Device.{IsUnchanged, LeavesOnly, MakesCall};
+ghost use Rattle.hpb_disk.specs.Faults.{faults_of, faults_among, is_fault, is_late};
 
 use crate::trace::Trace;
 use crate::{Disk, DiskFailed};
@@ -112,48 +110,25 @@ impl<D: Disk + Drop, F: Faults> FaultyDisk<D, F> {
 }
 
 impl<D: Disk + Drop, F: Faults> Disk for FaultyDisk<D, F> {
-    ghost use Rattle.hpb_disk.specs.FaultyDisks.{inner as inner_of, fault as fault_of_disk, calls, moment_behind, seen_behind, left_behind, since_behind, failures_behind, all_failures, all_asked};
+    ghost use Rattle.hpb_disk.specs.FaultyDisks.{inner as inner_of, behind, fault as fault_of_disk, calls, faulty_device};
     ghost use Rattle.hpb_disk.specs.Asked.Asked.{writes, syncs};
 
-    ghost seen = { seen_behind };
-
-    ghost may_leave = { left_behind };
-
-    ghost moment = { calls };
-
-    ghost left_since = { since_behind };
-
-    ghost failures = { all_failures };
-
-    ghost asked = { all_asked };
-
-    ghost seen_may_stay = { λ f. D.seen_may_stay f.inner };
-
-    ghost sized = { λ f. D.sized f.inner };
-
-    ghost counts_now = { λ f t image le may. D.counts_now f.inner (D.moment f.inner - passed_since f.trace.events t) image (sub-le (D.moment f.inner) (passed_since f.trace.events t)) may };
-
-    ghost only_now = { λ f image left. D.only_now f.inner image (now_behind (D.left_since f.inner) (D.moment f.inner) f.trace.events image left) };
+    ghost device = { faulty_device };
 
     fn len(&self) -> usize {
         self.inner.len()
     }
 
     fn read_into(&mut self, at: usize, out: &mut [u8]) -> Result<(), DiskFailed>
-        requires range { at + length out.old ≤ length (seen_behind self.old) }
-        ensures bytes { OnOk result (out.new ≡ part at (length out.old) (seen_behind self.old)) }
-        ensures seen { seen_behind self.new ≡ seen_behind self.old }
-        ensures crash { Within (left_behind self.new) (left_behind self.old) }
-        ensures crash_kept { Within (left_behind self.old) (left_behind self.new) }
-        ensures time { Elapses (calls self.old) (calls self.new) (since_behind self.old) (since_behind self.new)
-            (left_behind self.old) }
-        ensures cause { CountsFailure result (all_failures self.old) (all_failures self.new) }
-        ensures asked { Asks result [] (all_asked self.old) (all_asked self.new) }
+        requires range { at + length out.old ≤ length (faulty_device self.old).seen }
+        ensures bytes { OnOk result (out.new ≡ part at (length out.old) (faulty_device self.old).seen) }
+        ensures unchanged { IsUnchanged (faulty_device self.old) (faulty_device self.new) }
+        ensures call { MakesCall result [] (faulty_device self.old) (faulty_device self.new) }
         // Beyond the trait: which calls fail, and which reach the device behind it.
         ensures fault { fault_of_disk self.new ≡ fault_of_disk self.old }
         ensures fails { is_fault F.LATER (fault_of_disk self.old) (calls self.old + 1) ≡ true → IsErr result }
         ensures held { is_fault F.LATER (fault_of_disk self.old) (calls self.old + 1) ≡ true → inner_of self.new ≡ inner_of self.old }
-        ensures passed { is_fault F.LATER (fault_of_disk self.old) (calls self.old + 1) ≡ false → moment_behind self.new ≡ moment_behind self.old + 1 }
+        ensures passed { is_fault F.LATER (fault_of_disk self.old) (calls self.old + 1) ≡ false → (behind self.new).moment ≡ (behind self.old).moment + 1 }
     {
         let fails = self.is_next_fault();
         self.away = self.away.saturating_sub(1);
@@ -176,21 +151,19 @@ impl<D: Disk + Drop, F: Faults> Disk for FaultyDisk<D, F> {
     }
 
     fn write_at(&mut self, at: usize, bytes: &[u8]) -> Result<(), DiskFailed>
-        requires range { at + length bytes.now ≤ length (seen_behind self.old) }
-        ensures written { OnOk result (seen_behind self.new ≡ put at bytes.now (seen_behind self.old)) }
-        ensures size { length (seen_behind self.new) ≡ length (seen_behind self.old) }
-        ensures crash { Within (left_behind self.new) (TornFrom at (length bytes.now) (left_behind self.old)) }
-        ensures time { Elapses (calls self.old) (calls self.new) (since_behind self.old) (since_behind self.new)
-            (TornFrom at (length bytes.now) (left_behind self.old)) }
-        ensures cause { CountsFailure result (all_failures self.old) (all_failures self.new) }
-        ensures asked { Asks result (writes at bytes.now ∷ []) (all_asked self.old) (all_asked self.new) }
+        requires range { at + length bytes.now ≤ length (faulty_device self.old).seen }
+        ensures written { OnOk result ((faulty_device self.new).seen ≡ put at bytes.now (faulty_device self.old).seen) }
+        ensures size { length (faulty_device self.new).seen ≡ length (faulty_device self.old).seen }
+        ensures crash { LeavesOnly (faulty_device self.old) (faulty_device self.new)
+            (TornFrom at (length bytes.now) (faulty_device self.old).may_leave) }
+        ensures call { MakesCall result (writes at bytes.now ∷ []) (faulty_device self.old) (faulty_device self.new) }
         // Beyond the trait: which calls fail, and which reach the device behind it.
         ensures fault { fault_of_disk self.new ≡ fault_of_disk self.old }
         ensures fails { is_fault F.LATER (fault_of_disk self.old) (calls self.old + 1) ≡ true → IsErr result }
         ensures held { is_late F.LATER (fault_of_disk self.old) (calls self.old + 1) ≡ true → inner_of self.new ≡ inner_of self.old }
-        ensures passed { is_late F.LATER (fault_of_disk self.old) (calls self.old + 1) ≡ false → moment_behind self.new ≡ moment_behind self.old + 1 }
-        ensures behind { is_late F.LATER (fault_of_disk self.old) (calls self.old + 1) ≡ false → failures_behind self.new ≡ failures_behind self.old
-            → seen_behind self.new ≡ put at bytes.now (seen_behind self.old) }
+        ensures passed { is_late F.LATER (fault_of_disk self.old) (calls self.old + 1) ≡ false → (behind self.new).moment ≡ (behind self.old).moment + 1 }
+        ensures behind { is_late F.LATER (fault_of_disk self.old) (calls self.old + 1) ≡ false → (behind self.new).failures ≡ (behind self.old).failures
+            → (faulty_device self.new).seen ≡ put at bytes.now (faulty_device self.old).seen }
     {
         if self.is_next_late() {
             self.trace.held();
@@ -219,18 +192,15 @@ impl<D: Disk + Drop, F: Faults> Disk for FaultyDisk<D, F> {
     }
 
     fn sync(&mut self) -> Result<(), DiskFailed>
-        ensures durable { OnOk result (Only (seen_behind self.old) (left_behind self.new)) }
-        ensures seen { seen_behind self.new ≡ seen_behind self.old }
-        ensures crash { Within (left_behind self.new) (left_behind self.old) }
-        ensures time { Elapses (calls self.old) (calls self.new) (since_behind self.old) (since_behind self.new)
-            (left_behind self.old) }
-        ensures cause { CountsFailure result (all_failures self.old) (all_failures self.new) }
-        ensures asked { Asks result (syncs ∷ []) (all_asked self.old) (all_asked self.new) }
+        ensures durable { OnOk result (Only (faulty_device self.old).seen (faulty_device self.new).may_leave) }
+        ensures seen { (faulty_device self.new).seen ≡ (faulty_device self.old).seen }
+        ensures crash { LeavesOnly (faulty_device self.old) (faulty_device self.new) (faulty_device self.old).may_leave }
+        ensures call { MakesCall result (syncs ∷ []) (faulty_device self.old) (faulty_device self.new) }
         // Beyond the trait: which calls fail, and which reach the device behind it.
         ensures fault { fault_of_disk self.new ≡ fault_of_disk self.old }
         ensures fails { is_fault F.LATER (fault_of_disk self.old) (calls self.old + 1) ≡ true → IsErr result }
         ensures held { is_fault F.LATER (fault_of_disk self.old) (calls self.old + 1) ≡ true → inner_of self.new ≡ inner_of self.old }
-        ensures passed { is_fault F.LATER (fault_of_disk self.old) (calls self.old + 1) ≡ false → moment_behind self.new ≡ moment_behind self.old + 1 }
+        ensures passed { is_fault F.LATER (fault_of_disk self.old) (calls self.old + 1) ≡ false → (behind self.new).moment ≡ (behind self.old).moment + 1 }
     {
         let fails = self.is_next_fault();
         self.away = self.away.saturating_sub(1);

@@ -1,9 +1,8 @@
 //! A device in a file of the operating system.
 ghost use Rattle.std.specs.Prelude.{◌≡◌, ◌+◌, ◌≤◌, ◌^◌, true, false, [], ◌∷◌, length, replicate, IsErr, IfOk, OnOk, OnErr, MatchResult};
-ghost use Rattle.hpb_disk.specs.Images.{part, put, Only, TornFrom, Within, Elapses, CountsFailure};
-ghost use Rattle.hpb_disk.specs.Asked.{Asks};
+ghost use Rattle.hpb_disk.specs.Images.{part, put, Only, TornFrom};
+ghost use Rattle.hpb_disk.specs.Device.{IsSettled, IsUnchanged, LeavesOnly, MakesCall};
 ghost use Rattle.hpb_disk.specs.Calls.{calls_of, seen_of};
-ghost use Rattle.hpb_disk.specs.Devices as devices;
 
 use crate::memory::overwrite;
 use crate::opening::{
@@ -41,12 +40,12 @@ pub struct FileDisk {
 }
 
 impl FileDisk {
-    ghost use Rattle.hpb_disk.specs.FileDisks.{file_seen, file_left, file_is_apart, file_is_broken};
+    ghost use Rattle.hpb_disk.specs.FileDisks.{file_device, file_is_apart, file_is_broken};
 
     // A device over a file that holds these bytes, all of them on the medium.
     pub(crate) fn over(file: File, bytes: Vec<u8>) -> FileDisk
-        ensures seen { file_seen result ≡ bytes.items }
-        ensures settled { Only (file_seen result) (file_left result) }
+        ensures seen { (file_device result).seen ≡ bytes.items }
+        ensures settled { IsSettled (file_device result) }
         ensures works { file_is_broken result ≡ false }
         ensures file { result.file ≡ file }
     {
@@ -62,10 +61,10 @@ impl FileDisk {
 
     // Locks the file, alone or beside others that only read, and reads the bytes that are on the medium.
     fn take(alloc: Global, file: File, share: Share) -> Result<FileDisk, FileFault>
-        ensures settled { IfOk result (λ disk. Only (file_seen disk) (file_left disk)) }
+        ensures settled { IfOk result (λ disk. IsSettled (file_device disk)) }
         ensures works { IfOk result (λ disk. file_is_broken disk ≡ false) }
         ensures apart { IfOk result file_is_apart }
-        ensures most { IfOk result (λ disk. length (file_seen disk) ≤ 2 ^ 26) }
+        ensures most { IfOk result (λ disk. length (file_device disk).seen ≤ 2 ^ 26) }
     {
         check_descriptor(&file)?;
         if !file.metadata()?.is_file() {
@@ -92,10 +91,10 @@ impl FileDisk {
         alloc: Global,
         path: &str,
     ) -> Result<FileDisk, FileFault>
-        ensures settled { IfOk result (λ disk. Only (file_seen disk) (file_left disk)) }
+        ensures settled { IfOk result (λ disk. IsSettled (file_device disk)) }
         ensures works { IfOk result (λ disk. file_is_broken disk ≡ false) }
         ensures apart { IfOk result file_is_apart }
-        ensures most { IfOk result (λ disk. length (file_seen disk) ≤ 2 ^ 26) }
+        ensures most { IfOk result (λ disk. length (file_device disk).seen ≤ 2 ^ 26) }
     {
         look_at(rt, path)?;
         let file = File::options().read(true).write(true).open(rt, path)?;
@@ -112,10 +111,10 @@ impl FileDisk {
         alloc: Global,
         path: &str,
     ) -> Result<FileDisk, FileFault>
-        ensures settled { IfOk result (λ disk. Only (file_seen disk) (file_left disk)) }
+        ensures settled { IfOk result (λ disk. IsSettled (file_device disk)) }
         ensures works { IfOk result (λ disk. file_is_broken disk ≡ false) }
         ensures apart { IfOk result file_is_apart }
-        ensures most { IfOk result (λ disk. length (file_seen disk) ≤ 2 ^ 26) }
+        ensures most { IfOk result (λ disk. length (file_device disk).seen ≤ 2 ^ 26) }
     {
         look_at(rt, path)?;
         let file = File::options().read(true).open(rt, path)?;
@@ -140,8 +139,8 @@ impl FileDisk {
         path: &str,
         len: usize,
     ) -> Result<FileDisk, FileFault>
-        ensures seen { IfOk result (λ disk. file_seen disk ≡ replicate len 0) }
-        ensures settled { IfOk result (λ disk. Only (file_seen disk) (file_left disk)) }
+        ensures seen { IfOk result (λ disk. (file_device disk).seen ≡ replicate len 0) }
+        ensures settled { IfOk result (λ disk. IsSettled (file_device disk)) }
         ensures works { IfOk result (λ disk. file_is_broken disk ≡ false) }
         ensures apart { IfOk result file_is_apart }
     {
@@ -170,7 +169,7 @@ impl FileDisk {
         alloc: Global,
         path: &str,
     ) -> Result<FileDisk, FileFault>
-        ensures settled { IfOk result (λ disk. Only (file_seen disk) (file_left disk)) }
+        ensures settled { IfOk result (λ disk. IsSettled (file_device disk)) }
         ensures works { IfOk result (λ disk. file_is_broken disk ≡ false) }
         ensures apart { IfOk result file_is_apart }
     {
@@ -188,7 +187,7 @@ impl FileDisk {
         path: &str,
         len: usize,
     ) -> Result<FileDisk, FileFault>
-        ensures settled { IfOk result (λ disk. Only (file_seen disk) (file_left disk)) }
+        ensures settled { IfOk result (λ disk. IsSettled (file_device disk)) }
         ensures works { IfOk result (λ disk. file_is_broken disk ≡ false) }
         ensures apart { IfOk result file_is_apart }
     {
@@ -217,44 +216,21 @@ impl FileDisk {
 }
 
 impl Disk for FileDisk {
-    ghost use Rattle.hpb_disk.specs.FileDisks.{file_calls, file_seen, file_left, file_moment, file_since, file_failures, file_asked, file_is_broken};
+    ghost use Rattle.hpb_disk.specs.FileDisks.{file_calls, file_device, file_is_broken};
     ghost use Rattle.hpb_disk.specs.Asked.Asked.{writes, syncs};
     ghost use Rattle.hpb_disk.specs.Calls.Call.{read, wrote, synced, failed, write_failed};
 
-    ghost seen = { file_seen };
-
-    ghost may_leave = { file_left };
-
-    ghost moment = { file_moment };
-
-    ghost left_since = { file_since };
-
-    ghost failures = { file_failures };
-
-    ghost asked = { file_asked };
-
-    ghost seen_may_stay = { λ d. devices.shown_may_stay d.trace.first (calls_of d.trace.events) d.bytes.items d.shown };
-
-    ghost sized = { λ d image left. devices.shown_sized d.trace.first (calls_of d.trace.events) d.bytes.items image d.shown left };
-
-    ghost counts_now = { λ d t image le now. devices.counts_now d.trace.first (calls_of d.trace.events) t image now };
-
-    ghost only_now = { λ d image left. devices.only_now d.trace.first (calls_of d.trace.events) image left };
+    ghost device = { file_device };
 
     fn len(&self) -> usize {
         self.bytes.len()
     }
 
     fn read_into(&mut self, at: usize, out: &mut [u8]) -> Result<(), DiskFailed>
-        requires range { at + length out.old ≤ length (file_seen self.old) }
-        ensures bytes { OnOk result (out.new ≡ part at (length out.old) (file_seen self.old)) }
-        ensures seen { file_seen self.new ≡ file_seen self.old }
-        ensures crash { Within (file_left self.new) (file_left self.old) }
-        ensures crash_kept { Within (file_left self.old) (file_left self.new) }
-        ensures time { Elapses (file_moment self.old) (file_moment self.new) (file_since self.old) (file_since self.new)
-            (file_left self.old) }
-        ensures cause { CountsFailure result (file_failures self.old) (file_failures self.new) }
-        ensures asked { Asks result [] (file_asked self.old) (file_asked self.new) }
+        requires range { at + length out.old ≤ length (file_device self.old).seen }
+        ensures bytes { OnOk result (out.new ≡ part at (length out.old) (file_device self.old).seen) }
+        ensures unchanged { IsUnchanged (file_device self.old) (file_device self.new) }
+        ensures call { MakesCall result [] (file_device self.old) (file_device self.new) }
         // Beyond the trait: the call that is noted, and that no call succeeds after a write or a sync that failed.
         ensures called { MatchResult result
             (λ _. file_calls self.new ≡ read ∷ file_calls self.old)
@@ -276,14 +252,12 @@ impl Disk for FileDisk {
     }
 
     fn write_at(&mut self, at: usize, bytes: &[u8]) -> Result<(), DiskFailed>
-        requires range { at + length bytes.now ≤ length (file_seen self.old) }
-        ensures written { OnOk result (file_seen self.new ≡ put at bytes.now (file_seen self.old)) }
-        ensures size { length (file_seen self.new) ≡ length (file_seen self.old) }
-        ensures crash { Within (file_left self.new) (TornFrom at (length bytes.now) (file_left self.old)) }
-        ensures time { Elapses (file_moment self.old) (file_moment self.new) (file_since self.old) (file_since self.new)
-            (TornFrom at (length bytes.now) (file_left self.old)) }
-        ensures cause { CountsFailure result (file_failures self.old) (file_failures self.new) }
-        ensures asked { Asks result (writes at bytes.now ∷ []) (file_asked self.old) (file_asked self.new) }
+        requires range { at + length bytes.now ≤ length (file_device self.old).seen }
+        ensures written { OnOk result ((file_device self.new).seen ≡ put at bytes.now (file_device self.old).seen) }
+        ensures size { length (file_device self.new).seen ≡ length (file_device self.old).seen }
+        ensures crash { LeavesOnly (file_device self.old) (file_device self.new)
+            (TornFrom at (length bytes.now) (file_device self.old).may_leave) }
+        ensures call { MakesCall result (writes at bytes.now ∷ []) (file_device self.old) (file_device self.new) }
         // Beyond the trait: the call that is noted, and that no call succeeds after a write or a sync that failed.
         ensures called { MatchResult result
             (λ _. file_calls self.new ≡ wrote at bytes.now ∷ file_calls self.old)
@@ -312,13 +286,10 @@ impl Disk for FileDisk {
 
     #[tactic(auto, using(crate::proofs::Steps::synced_leaves))]
     fn sync(&mut self) -> Result<(), DiskFailed>
-        ensures durable { OnOk result (Only (file_seen self.old) (file_left self.new)) }
-        ensures seen { file_seen self.new ≡ file_seen self.old }
-        ensures crash { Within (file_left self.new) (file_left self.old) }
-        ensures time { Elapses (file_moment self.old) (file_moment self.new) (file_since self.old) (file_since self.new)
-            (file_left self.old) }
-        ensures cause { CountsFailure result (file_failures self.old) (file_failures self.new) }
-        ensures asked { Asks result (syncs ∷ []) (file_asked self.old) (file_asked self.new) }
+        ensures durable { OnOk result (Only (file_device self.old).seen (file_device self.new).may_leave) }
+        ensures seen { (file_device self.new).seen ≡ (file_device self.old).seen }
+        ensures crash { LeavesOnly (file_device self.old) (file_device self.new) (file_device self.old).may_leave }
+        ensures call { MakesCall result (syncs ∷ []) (file_device self.old) (file_device self.new) }
         // Beyond the trait: the call that is noted, and that no call succeeds after a write or a sync that failed.
         ensures called { MatchResult result
             (λ _. file_calls self.new ≡ synced ∷ file_calls self.old)

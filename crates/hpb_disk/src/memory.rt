@@ -1,11 +1,10 @@
 //! A device in memory, which keeps a record of its calls.
 ghost use Rattle.std.specs.Prelude.{◌≡◌, ◌+◌, ◌≤◌, [], ◌∷◌, ◌++◌, length, drop, replicate, vec_len, OnOk, OnErr, IfOk, MatchResult};
-ghost use Rattle.hpb_disk.specs.Images.{part, put, Only, TornFrom, Within, Elapses, CountsFailure};
-ghost use Rattle.hpb_disk.specs.Asked.{Asks};
+ghost use Rattle.hpb_disk.specs.Images.{part, put, Only, TornFrom};
+ghost use Rattle.hpb_disk.specs.Device.{IsSettled, IsUnchanged, LeavesOnly, MakesCall};
 ghost use Rattle.hpb_disk.specs.Calls.{calls_of, seen_of, failures_of, base_of, pending_of};
 ghost use Rattle.hpb_disk.specs.Fates.{stopped};
 ghost use Rattle.hpb_disk.specs.Records.{writes_of};
-ghost use Rattle.hpb_disk.specs.Devices as devices;
 
 use crate::done::Done;
 use crate::stop::stop_one;
@@ -63,13 +62,13 @@ fn keep_write(
 }
 
 impl MemoryDisk {
-    ghost use Rattle.hpb_disk.specs.MemoryDisks.{memory_calls, memory_seen, memory_left, memory_moment, memory_failures, memory_base, memory_pending};
+    ghost use Rattle.hpb_disk.specs.MemoryDisks.{memory_calls, memory_device, memory_base, memory_pending};
 
     /// A device of `len` zero bytes, without a call so far.
     pub fn zeros(alloc: Global, len: usize) -> Result<MemoryDisk, AllocError>
-        ensures seen { IfOk result (λ disk. memory_seen disk ≡ replicate len 0) }
-        ensures settled { IfOk result (λ disk. Only (memory_seen disk) (memory_left disk)) }
-        ensures base { IfOk result (λ disk. memory_base disk ≡ memory_seen disk) }
+        ensures seen { IfOk result (λ disk. (memory_device disk).seen ≡ replicate len 0) }
+        ensures settled { IfOk result (λ disk. IsSettled (memory_device disk)) }
+        ensures base { IfOk result (λ disk. memory_base disk ≡ (memory_device disk).seen) }
         ensures fresh { IfOk result (λ disk. memory_calls disk ≡ []) }
     {
         MemoryDisk::of(alloc, vec![in alloc; 0; len]?)
@@ -77,9 +76,9 @@ impl MemoryDisk {
 
     /// A device that holds these bytes, without a call so far, so that no write is pending.
     pub fn of(alloc: Global, bytes: Vec<u8>) -> Result<MemoryDisk, AllocError>
-        ensures seen { IfOk result (λ disk. memory_seen disk ≡ bytes.items) }
-        ensures settled { IfOk result (λ disk. Only (memory_seen disk) (memory_left disk)) }
-        ensures base { IfOk result (λ disk. memory_base disk ≡ memory_seen disk) }
+        ensures seen { IfOk result (λ disk. (memory_device disk).seen ≡ bytes.items) }
+        ensures settled { IfOk result (λ disk. IsSettled (memory_device disk)) }
+        ensures base { IfOk result (λ disk. memory_base disk ≡ (memory_device disk).seen) }
         ensures fresh { IfOk result (λ disk. memory_calls disk ≡ []) }
     {
         let base = bytes.to_vec(alloc)?;
@@ -97,10 +96,10 @@ impl MemoryDisk {
     /// A device with an image that a stop may leave now. The writes that no sync covers, the oldest first, each take
     /// the next fate of `pick`. If there are too few fates, the other writes are lost.
     pub fn after_stop(&self, alloc: Global, pick: &[Fate]) -> Result<MemoryDisk, AllocError>
-        ensures image { IfOk result (λ disk. memory_seen disk ≡ stopped (memory_pending self.now) pick.now (memory_base self.now)) }
-        ensures may_stay { IfOk result (λ disk. memory_left self.now (memory_seen disk)) }
-        ensures settled { IfOk result (λ disk. Only (memory_seen disk) (memory_left disk)) }
-        ensures base { IfOk result (λ disk. memory_base disk ≡ memory_seen disk) }
+        ensures image { IfOk result (λ disk. (memory_device disk).seen ≡ stopped (memory_pending self.now) pick.now (memory_base self.now)) }
+        ensures may_stay { IfOk result (λ disk. (memory_device self.now).may_leave (memory_device disk).seen) }
+        ensures settled { IfOk result (λ disk. IsSettled (memory_device disk)) }
+        ensures base { IfOk result (λ disk. memory_base disk ≡ (memory_device disk).seen) }
         ensures fresh { IfOk result (λ disk. memory_calls disk ≡ []) }
     {
         let mut image = self.base.to_vec(alloc)?;
@@ -114,51 +113,28 @@ impl MemoryDisk {
 
     /// How many calls are in its record: all reads, writes and syncs that succeeded.
     pub fn calls(&self) -> usize
-        ensures { result + memory_failures self.now ≡ memory_moment self.now }
+        ensures { result + (memory_device self.now).failures ≡ (memory_device self.now).moment }
     {
         self.done.len()
     }
 }
 
 impl Disk for MemoryDisk {
-    ghost use Rattle.hpb_disk.specs.MemoryDisks.{memory_calls, memory_seen, memory_left, memory_moment, memory_since, memory_failures, memory_asked};
+    ghost use Rattle.hpb_disk.specs.MemoryDisks.{memory_calls, memory_device};
     ghost use Rattle.hpb_disk.specs.Asked.Asked.{writes, syncs};
     ghost use Rattle.hpb_disk.specs.Calls.Call.{read, wrote, synced, failed};
 
-    ghost seen = { memory_seen };
-
-    ghost may_leave = { memory_left };
-
-    ghost moment = { memory_moment };
-
-    ghost left_since = { memory_since };
-
-    ghost failures = { memory_failures };
-
-    ghost asked = { memory_asked };
-
-    ghost seen_may_stay = { λ d. devices.shown_may_stay d.trace.first (calls_of d.trace.events) d.bytes.items d.shown };
-
-    ghost sized = { λ d image left. devices.shown_sized d.trace.first (calls_of d.trace.events) d.bytes.items image d.shown left };
-
-    ghost counts_now = { λ d t image le now. devices.counts_now d.trace.first (calls_of d.trace.events) t image now };
-
-    ghost only_now = { λ d image left. devices.only_now d.trace.first (calls_of d.trace.events) image left };
+    ghost device = { memory_device };
 
     fn len(&self) -> usize {
         self.bytes.len()
     }
 
     fn read_into(&mut self, at: usize, out: &mut [u8]) -> Result<(), DiskFailed>
-        requires range { at + length out.old ≤ length (memory_seen self.old) }
-        ensures bytes { OnOk result (out.new ≡ part at (length out.old) (memory_seen self.old)) }
-        ensures seen { memory_seen self.new ≡ memory_seen self.old }
-        ensures crash { Within (memory_left self.new) (memory_left self.old) }
-        ensures crash_kept { Within (memory_left self.old) (memory_left self.new) }
-        ensures time { Elapses (memory_moment self.old) (memory_moment self.new) (memory_since self.old) (memory_since self.new)
-            (memory_left self.old) }
-        ensures cause { CountsFailure result (memory_failures self.old) (memory_failures self.new) }
-        ensures asked { Asks result [] (memory_asked self.old) (memory_asked self.new) }
+        requires range { at + length out.old ≤ length (memory_device self.old).seen }
+        ensures bytes { OnOk result (out.new ≡ part at (length out.old) (memory_device self.old).seen) }
+        ensures unchanged { IsUnchanged (memory_device self.old) (memory_device self.new) }
+        ensures call { MakesCall result [] (memory_device self.old) (memory_device self.new) }
         // Beyond the trait: the call that is put into the record.
         ensures called { MatchResult result
             (λ _. memory_calls self.new ≡ read ∷ memory_calls self.old)
@@ -178,14 +154,12 @@ impl Disk for MemoryDisk {
     }
 
     fn write_at(&mut self, at: usize, bytes: &[u8]) -> Result<(), DiskFailed>
-        requires range { at + length bytes.now ≤ length (memory_seen self.old) }
-        ensures written { OnOk result (memory_seen self.new ≡ put at bytes.now (memory_seen self.old)) }
-        ensures size { length (memory_seen self.new) ≡ length (memory_seen self.old) }
-        ensures crash { Within (memory_left self.new) (TornFrom at (length bytes.now) (memory_left self.old)) }
-        ensures time { Elapses (memory_moment self.old) (memory_moment self.new) (memory_since self.old) (memory_since self.new)
-            (TornFrom at (length bytes.now) (memory_left self.old)) }
-        ensures cause { CountsFailure result (memory_failures self.old) (memory_failures self.new) }
-        ensures asked { Asks result (writes at bytes.now ∷ []) (memory_asked self.old) (memory_asked self.new) }
+        requires range { at + length bytes.now ≤ length (memory_device self.old).seen }
+        ensures written { OnOk result ((memory_device self.new).seen ≡ put at bytes.now (memory_device self.old).seen) }
+        ensures size { length (memory_device self.new).seen ≡ length (memory_device self.old).seen }
+        ensures crash { LeavesOnly (memory_device self.old) (memory_device self.new)
+            (TornFrom at (length bytes.now) (memory_device self.old).may_leave) }
+        ensures call { MakesCall result (writes at bytes.now ∷ []) (memory_device self.old) (memory_device self.new) }
         // Beyond the trait: the call that is put into the record.
         ensures called { MatchResult result
             (λ _. memory_calls self.new ≡ wrote at bytes.now ∷ memory_calls self.old)
@@ -206,13 +180,10 @@ impl Disk for MemoryDisk {
 
     #[tactic(auto, using(crate::proofs::Steps::synced_leaves))]
     fn sync(&mut self) -> Result<(), DiskFailed>
-        ensures durable { OnOk result (Only (memory_seen self.old) (memory_left self.new)) }
-        ensures seen { memory_seen self.new ≡ memory_seen self.old }
-        ensures crash { Within (memory_left self.new) (memory_left self.old) }
-        ensures time { Elapses (memory_moment self.old) (memory_moment self.new) (memory_since self.old) (memory_since self.new)
-            (memory_left self.old) }
-        ensures cause { CountsFailure result (memory_failures self.old) (memory_failures self.new) }
-        ensures asked { Asks result (syncs ∷ []) (memory_asked self.old) (memory_asked self.new) }
+        ensures durable { OnOk result (Only (memory_device self.old).seen (memory_device self.new).may_leave) }
+        ensures seen { (memory_device self.new).seen ≡ (memory_device self.old).seen }
+        ensures crash { LeavesOnly (memory_device self.old) (memory_device self.new) (memory_device self.old).may_leave }
+        ensures call { MakesCall result (syncs ∷ []) (memory_device self.old) (memory_device self.new) }
         // Beyond the trait: the call that is put into the record.
         ensures called { MatchResult result
             (λ _. memory_calls self.new ≡ synced ∷ memory_calls self.old)

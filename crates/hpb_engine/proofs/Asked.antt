@@ -7,37 +7,27 @@ use Rattle.hpb_slots.specs.Slots.{other_of}
 use Rattle.hpb_slots.specs.Writes.{closes_slot, writes_chunk}
 use Rattle.hpb_engine.specs.declared.progress.Progress.{Progress}
 use Rattle.hpb_engine.specs.Asking.{retire_asks, step_asks, turn_asks, turn_in_flight}
-use Rattle.hpb_engine.specs.Checkpoints.{checkpoint_calls, step_calls}
 use Rattle.hpb_engine.specs.Moves.{stepped, turned}
 use Rattle.hpb_engine.specs.Numbers.{end_of, may_be_open}
-use Rattle.hpb_engine.specs.Steps.{turn_calls}
 
-module _ {failed : Bool} (s : Progress) (works : failed ≡ false) where
-  pub at_turn : (turns : ℕ) → s.commit.busy ≡ true → s.commit.turns ≡ turns → (turn_calls failed s ≡ 1) × (turn_asks s ≡ turn_in_flight (turned s turns) ∷ [])
-  at_turn turns busy is = (
-    ap (λ (b : Bool). turn_calls b s) works ∙ ap (λ (b : Bool). if b then 1 else 0) busy,
-    ap (λ (b : Bool). if b then turn_in_flight s ∷ [] else []) busy ∙ ap (λ (n : ℕ). turn_in_flight (turned s n) ∷ []) is,
-  )
+module _ (s : Progress) where
+  pub at_turn : (turns : ℕ) → s.commit.busy ≡ true → s.commit.turns ≡ turns → turn_asks s ≡ turn_in_flight (turned s turns) ∷ []
+  at_turn turns busy is = ap (λ (b : Bool). if b then turn_in_flight s ∷ [] else []) busy ∙ ap (λ (n : ℕ). turn_in_flight (turned s n) ∷ []) is
 
-  pub at_step : (steps : ℕ) → s.checkpoint.steps ≡ steps → (checkpoint_calls failed s ≡ step_calls (stepped s steps)) × (step_asks s ≡ step_asks (stepped s steps))
-  at_step steps is = (ap (λ (b : Bool). checkpoint_calls b s) works ∙ ap (λ (n : ℕ). step_calls (stepped s n)) is, ap (λ (n : ℕ). step_asks (stepped s n)) is)
+  pub at_step : (steps : ℕ) → s.checkpoint.steps ≡ steps → step_asks s ≡ step_asks (stepped s steps)
+  at_step steps is = ap (λ (n : ℕ). step_asks (stepped s n)) is
 
-  pub at_chunk : 2 ≤ s.checkpoint.steps → s.checkpoint.steps ≤ 5
-      → (checkpoint_calls failed s ≡ 1) × (step_asks s ≡ writes_chunk (other_of s.checkpoint.newest) (s.checkpoint.steps - 2) s.checkpoint.body.items ∷ [])
-  at_chunk from to = (grind (arith, nat_tests), grind (arith, nat_tests))
+  pub at_chunk : 2 ≤ s.checkpoint.steps → s.checkpoint.steps ≤ 5 → step_asks s ≡ writes_chunk (other_of s.checkpoint.newest) (s.checkpoint.steps - 2) s.checkpoint.body.items ∷ []
+  at_chunk from to = grind (arith, nat_tests)
 
   pub at_begin : s.checkpoint.steps ≡ 0 → s.retirement.going ≡ false → s.window.covered < s.window.next → (may : Bool) → s.checkpoint.other_open ≡ may
-      → (checkpoint_calls failed s ≡ if may then 1 else 0) × (step_asks s ≡ if may then closes_slot (other_of s.checkpoint.newest) ∷ [] else [])
-  at_begin steps idle some may is = (grind (arith, nat_tests), grind (arith, nat_tests))
+      → step_asks s ≡ if may then closes_slot (other_of s.checkpoint.newest) ∷ [] else []
+  at_begin steps idle some may is = grind (arith, nat_tests)
 
   -- With nothing going, and all frames clean up to the end, there is no call.
-  pub at_rest : s.checkpoint.steps ≡ 0 → s.retirement.going ≡ false → s.window.covered ≡ s.window.next → s.retirement.upto ≡ end_of s.window → (checkpoint_calls failed s ≡ 0) × (step_asks s ≡ [])
-  at_rest steps off covered done = (grind (arith, nat_tests), grind (arith, nat_tests))
+  pub at_rest : s.checkpoint.steps ≡ 0 → s.retirement.going ≡ false → s.window.covered ≡ s.window.next → s.retirement.upto ≡ end_of s.window → step_asks s ≡ []
+  at_rest steps off covered done = grind (arith, nat_tests)
 
-pub at_retire : (s : Progress) (may : Bool) → may_be_open s.window s.retirement.upto ≡ may
-    → ◌≡◌ {A = ℕ} (if may_be_open s.window s.retirement.upto then 1 else 0) (if may then 1 else 0)
-    × (retire_asks s.window s.retirement.upto ≡ if may then closes_frame (shape_of s.window.frames) s.retirement.upto ∷ [] else [])
-at_retire s may is = (
-  ap (λ (b : Bool). if b then 1 else 0) is,
-  ap (λ (b : Bool). if b then closes_frame (shape_of s.window.frames) s.retirement.upto ∷ [] else []) is,
-)
+  pub at_retire : (may : Bool) → may_be_open s.window s.retirement.upto ≡ may
+      → retire_asks s.window s.retirement.upto ≡ if may then closes_frame (shape_of s.window.frames) s.retirement.upto ∷ [] else []
+  at_retire may is = ap (λ (b : Bool). if b then closes_frame (shape_of s.window.frames) s.retirement.upto ∷ [] else []) is

@@ -7,7 +7,7 @@ use Rattle.hpb_rules.specs.AuctionValue.{AuctionValue, Shows}
 use Rattle.hpb_rules.specs.AcceptedRuns.{AllAccepted}
 use Rattle.hpb_rules.specs.Tree.{Rules}
 use Rattle.hpb_rules.specs.Machine.{Machine, at_rest}
-use Rattle.hpb_disk.specs.Images.{Only}
+use Rattle.hpb_disk.specs.Device.{IsSettled}
 use Rattle.hpb_recover.specs.Heads.{IsLaidOut, layout_of as layout_by}
 use Rattle.hpb_recover.specs.Readings.{Found, Reads as ReadsAll, checkpoint}
 use Rattle.hpb_recover.specs.Standing.{Stands}
@@ -26,7 +26,7 @@ use Rattle.hpb_recover.specs.Plans.{IsPlan, IsPlanOf}
 use Rattle.hpb_engine.specs.declared.progress.Progress.{Progress}
 use Rattle.hpb_engine.specs.Cuts.{Cut}
 use Rattle.hpb_engine.specs.Facts.{Facts, Fits, InJournal, InSlots, Reads}
-use Rattle.hpb_engine.specs.Keeping.{Inside, Keeps}
+use Rattle.hpb_engine.specs.Keeping.{Inside, Keeps, Running}
 use Rattle.hpb_engine.specs.Laws.{Laws}
 use Rattle.hpb_engine.specs.Numbers.{IsSafe, count_of, end_of, layout_of, may_be_open}
 use Rattle.hpb_engine.specs.Starting.{IsFresh, cut_of}
@@ -243,17 +243,16 @@ module _ (laws : Laws) (s : Progress) (plan : Plan) (history : List Command) (im
   }
 
 -- A device on which nothing is pending.
-module _ (laws : Laws) {D : Type 0} (seen : D → List ℕ) (may_leave : D → List ℕ → Type 0) (disk : D) (s : Progress) (plan : Plan) (failed : Bool) (history : List Command)
-    (durable : Only (seen disk) (may_leave disk)) (fresh : IsFresh s plan) (is : IsPlan plan (seen disk)) (stands : Stands history (seen disk)) where
-  pub fresh_inside : Inside seen may_leave disk s failed history
+module _ (laws : Laws) (run : Running) (plan : Plan) (history : List Command)
+    (durable : IsSettled run.device) (fresh : IsFresh run.progress plan) (is : IsPlan plan run.device.seen) (stands : Stands history run.device.seen) where
+  pub fresh_inside : Inside run history
   fresh_inside = record {
-    cut = cut_of history (seen disk) stands;
+    cut = cut_of history run.device.seen stands;
     whole = stands.cuts;
-    fits = fresh_fits laws s plan history (seen disk) fresh is stands;
-    images = λ image left. subst (Facts s (cut_of history (seen disk) stands)) (sym (durable image left)) (fresh_facts laws s plan history (seen disk) fresh is stands);
-    reads = λ _. fresh_reads s plan fresh (cut_of history (seen disk) stands) (seen disk);
+    fits = fresh_fits laws run.progress plan history run.device.seen fresh is stands;
+    images = λ image left. subst (Facts run.progress (cut_of history run.device.seen stands)) (sym (durable image left)) (fresh_facts laws run.progress plan history run.device.seen fresh is stands);
+    reads = λ _. fresh_reads run.progress plan fresh (cut_of history run.device.seen stands) run.device.seen;
   }
 
-  pub fresh_keeps : Keeps seen may_leave disk s failed (at_rest history)
-  fresh_keeps = subst (λ (machine : Machine). Keeps seen may_leave disk s failed machine) (machine_by s history fresh.commit.busy)
-      (kept_inside laws seen may_leave disk s failed history fresh_inside)
+  pub fresh_keeps : Keeps run (at_rest history)
+  fresh_keeps = subst (λ (machine : Machine). Keeps run machine) (machine_by run.progress history fresh.commit.busy) (kept_inside laws run history fresh_inside)

@@ -19,7 +19,8 @@ use Rattle.hpb_rules.specs.LetterLaws.{JudgedIsShown}
 use Rattle.hpb_engine.specs.declared.progress.Progress.{Progress}
 use Rattle.hpb_engine.specs.Cuts.{Cut, all}
 use Rattle.hpb_engine.specs.Facts.{Fits, IsFlight}
-use Rattle.hpb_engine.specs.Keeping.{Inside, Keeps}
+use Rattle.hpb_disk.specs.Device.{Device}
+use Rattle.hpb_engine.specs.Keeping.{Inside, Keeps, Running}
 use Rattle.hpb_engine.specs.Laws.{Laws}
 use Rattle.hpb_engine.specs.Moves.{begun}
 use Rattle.hpb_engine.proofs.CommitTurns.{begun_facts, begun_fits, begun_reads}
@@ -61,8 +62,9 @@ module _ (laws : Laws) (s : Progress) (free : s.commit.busy ≡ false) (rest : s
         new = commands_are;
       }
 
-  pub inside_flying : {D : Type 0} {seen : D → List ℕ} {may_leave : D → List ℕ → Type 0} {disk : D} {failed : Bool} → may_leave disk (seen disk) → (history : List Command) → Inside seen may_leave disk s failed history → Inside seen may_leave disk flying failed history
-  inside_flying {seen = seen} {disk = disk} stays history inside =
+  pub inside_flying : (device : Device) (failed : Bool) (history : List Command) → Inside (record { device = device; progress = s; failed = failed }) history
+      → Inside (record { device = device; progress = flying; failed = failed }) history
+  inside_flying device failed history inside =
       let k = inside.cut in
       let batch = flying.commit.batch in
       record {
@@ -70,7 +72,7 @@ module _ (laws : Laws) (s : Progress) (free : s.commit.busy ≡ false) (rest : s
         whole = inside.whole;
         fits = begun_fits laws s k inside.fits free room batch answers after (ruled ∙ ap (λ (value : AuctionValue). value.rules) rest) (flight k inside.fits);
         images = λ image left. begun_facts laws s k inside.fits free batch answers after image (inside.images image left);
-        reads = λ works. begun_reads laws s k inside.fits free batch answers after (seen disk) (inside.images (seen disk) stays) (inside.reads works);
+        reads = λ works. begun_reads laws s k inside.fits free batch answers after device.seen (inside.images device.seen device.seen_may_stay) (inside.reads works);
       }
 
 -- The machine takes letters.
@@ -86,8 +88,10 @@ abbrev lets_leave : List Answer → Machine → Effect
 lets_leave answers machine = record { leaving = answers; machine = machine }
 
 -- With nothing in flight the machine takes letters by the answers that they are given.
-module _ (shown : JudgedIsShown) {D : Type 0} {seen : D → List ℕ} {may_leave : D → List ℕ → Type 0} {disk : D} {s : Progress} {failed : Bool} {machine : Machine}
-    (keeps : Keeps seen may_leave disk s failed machine) (letters : List Letter) (free : s.commit.busy ≡ false) where
+module _ (shown : JudgedIsShown) {run : Running} {machine : Machine} (keeps : Keeps run machine) (letters : List Letter) (free : run.progress.commit.busy ≡ false) where
+  abbrev s : Progress
+  s = run.progress
+
   rests : machine.flight ≡ None
   rests = keeps.flight ∙ ap (λ (busy : Bool). if busy then Some (record { answers = s.commit.answers; turns = s.commit.turns }) else None) free
 

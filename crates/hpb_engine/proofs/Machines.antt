@@ -1,7 +1,8 @@
 -- The machine that is kept after a step is the machine's next state.
-use Rattle.std.proofs.Common.{◌≡◌, inl, inr, ⊎_elim, ℕ, zero, suc, ◌+◌, ◌<◌, ◌≤◌, Bool, true, false, List, ◌++◌, Option, Some, None, Result, Ok, Err, refl, sym, ◌∙◌, ap, subst, arith}
+use Rattle.std.proofs.Common.{◌≡◌, inl, inr, ⊎_elim, ℕ, zero, suc, ◌+◌, ◌<◌, ◌≤◌, Bool, true, false, List, [], ◌++◌, Option, Some, None, Result, Ok, Err, refl, sym, ◌∙◌, ap, subst, arith}
 use Rattle.hpb_rules.specs.declared.command.Command.{Command}
-use Rattle.hpb_disk.specs.Images.{LeavesOnly}
+use Rattle.hpb_disk.specs.Device.{LeavesOnly}
+use Rattle.hpb_disk.proofs.Runs.{leaves_at_first, leaves_within}
 use Rattle.std.proofs.lemmas.Bool.{cases_eq}
 use Rattle.std.specs.Prelude.{if◌then◌else◌}
 use Rattle.hpb_rules.specs.declared.letter.Answer.{Answer}
@@ -9,7 +10,7 @@ use Rattle.hpb_rules.specs.Letters.{new_commands}
 use Rattle.hpb_rules.specs.Machine.{Machine, Flight, at_rest, in_flight, turn}
 use Rattle.hpb_engine.specs.declared.progress.Commit.{Commit}
 use Rattle.hpb_engine.specs.declared.progress.Progress.{Progress}
-use Rattle.hpb_engine.specs.Keeping.{Inside, Keeps, StandsBetween, StandsEither, StandsFor, flight_of, machine_of}
+use Rattle.hpb_engine.specs.Keeping.{Inside, Keeps, Running, StandsBetween, StandsEither, StandsFor, flight_of, machine_of}
 use Rattle.hpb_engine.specs.Laws.{Laws}
 use Rattle.hpb_engine.proofs.Standing.{kept_inside}
 use Rattle.hpb_engine.specs.Moves.{turned}
@@ -18,21 +19,7 @@ use Rattle.hpb_engine.specs.declared.step.Fault.TheVariants as faults
 use Rattle.hpb_engine.specs.declared.step.Step.{Step}
 use Rattle.hpb_engine.specs.declared.step.Step.TheVariants as steps
 use Rattle.hpb_engine.specs.Checkpoints.{SameCore}
-use Rattle.hpb_engine.specs.Steps.{TurnLeads, acknowledged_by, turn_by}
-
--- If each image of one set is in another, the images since the start are, too.
-pub since_map : {before now : ℕ} {past since : ℕ → List ℕ → Type 0} {left : List ℕ → Type 0} (images others : List ℕ → Type 0)
-    → ((image : List ℕ) → images image → others image) → LeavesOnly before now past since left images → LeavesOnly before now past since left others
-since_map images others each leaves = record {
-  later = leaves.later;
-  nothing_else = λ moment image le was. ⊎_elim (λ old. inl old) (λ new. inr (each image new)) (leaves.nothing_else moment image le was);
-  keeps = leaves.keeps;
-  after = λ image left. each image (leaves.after image left);
-}
-
--- Without a call nothing is torn.
-pub leaves_same : {now : ℕ} {past : ℕ → List ℕ → Type 0} {left images : List ℕ → Type 0} → ((image : List ℕ) → left image → images image) → LeavesOnly now now past past left images
-leaves_same each = record { later = omega arith; nothing_else = λ at image le was. inl was; keeps = λ at image le was. was; after = each }
+use Rattle.hpb_engine.specs.Steps.{HasEffect, TurnLeads, acknowledged_by, turn_by}
 
 abbrev pub with_flight : List Command → Option Flight → Machine
 with_flight history flight = record { acknowledged = history; flight = flight }
@@ -40,23 +27,28 @@ with_flight history flight = record { acknowledged = history; flight = flight }
 abbrev with_commit : List Command → Commit → Machine
 with_commit history commit = record { acknowledged = history; flight = flight_of commit }
 
+-- A call that does nothing.
+pub no_effect : (run : Running) (leaving : List Answer) → leaving ≡ [] → HasEffect run run (λ machine. record { leaving = []; machine = machine }) leaving
+no_effect run leaving none = record {
+  keeps = λ machine keeps. keeps;
+  answers = λ machine keeps. none;
+  since = λ machine keeps. leaves_at_first run.device (StandsEither machine machine) (λ image left. inl (keeps.images image left));
+}
+
 -- The machine that is kept, by the progress.
-machine_is : {D : Type 0} {seen : D → List ℕ} {may_leave : D → List ℕ → Type 0} {disk : D} {s : Progress} {failed : Bool} {machine : Machine} → Keeps seen may_leave disk s failed machine
-    → machine_of s machine.acknowledged ≡ machine
+machine_is : {run : Running} {machine : Machine} → Keeps run machine → machine_of run.progress machine.acknowledged ≡ machine
 machine_is {machine = machine} keeps = ap (with_flight machine.acknowledged) (sym keeps.flight)
 
 -- A step that changes neither the acknowledged commands nor the batch in flight.
-module _ {D : Type 0} {seen : D → List ℕ} {may_leave : D → List ℕ → Type 0} {old : D} {s t : Progress} {failed : Bool} {machine : Machine}
-    (keeps : Keeps seen may_leave old s failed machine) (same : SameCore s t) where
-  still : machine_of t machine.acknowledged ≡ machine
+module _ {old : Running} (new : Running) {machine : Machine} (keeps : Keeps old machine) (same : SameCore old.progress new.progress) where
+  still : machine_of new.progress machine.acknowledged ≡ machine
   still = ap (with_commit machine.acknowledged) same.commit ∙ machine_is keeps
 
-  pub kept_still : {new : D} {after : Bool} (laws : Laws) → Inside seen may_leave new t after machine.acknowledged → Keeps seen may_leave new t after machine
-  kept_still {new = new} {after = after} laws inside = subst (Keeps seen may_leave new t after) still (kept_inside laws seen may_leave new t after machine.acknowledged inside)
+  pub kept_still : (laws : Laws) → Inside new machine.acknowledged → Keeps new machine
+  kept_still laws inside = subst (Keeps new) still (kept_inside laws new machine.acknowledged inside)
 
-  pub since_still : {before now : ℕ} {past since : ℕ → List ℕ → Type 0} {left : List ℕ → Type 0}
-      → LeavesOnly before now past since left (StandsBetween s t machine.acknowledged) → LeavesOnly before now past since left (StandsFor machine)
-  since_still leaves = since_map (StandsBetween s t machine.acknowledged) (StandsFor machine)
+  pub since_still : LeavesOnly old.device new.device (StandsBetween old.progress new.progress machine.acknowledged) → LeavesOnly old.device new.device (StandsFor machine)
+  since_still leaves = leaves_within
       (λ image stands. ⊎_elim (λ one. subst (λ (m : Machine). StandsFor m image) (machine_is keeps) one) (λ other. subst (λ (m : Machine). StandsFor m image) still other) stands) leaves
 
 -- The machine, by whether a batch is in flight.
@@ -101,22 +93,25 @@ turn_machine failed (Err faults.Device) s t history most new leads = elim (cases
 ]
 turn_machine failed (Err faults.Failed) s t history most new leads = ap (λ (p : Progress). machine_of p history) (sym leads.1)
 
-module _ {D : Type 0} {seen : D → List ℕ} {may_leave : D → List ℕ → Type 0} {old : D} {s : Progress} {failed : Bool} {machine : Machine}
-    (keeps : Keeps seen may_leave old s failed machine) (t : Progress) (result : Result Step Fault) (leads : TurnLeads failed result s t) where
+module _ {old : Running} (new : Running) {machine : Machine} (keeps : Keeps old machine) (result : Result Step Fault) (leads : TurnLeads old.failed result old.progress new.progress) where
+  abbrev s : Progress
+  s = old.progress
+
+  abbrev t : Progress
+  t = new.progress
+
   becomes : machine_of t (acknowledged_by result s machine.acknowledged) ≡ (turn_by result machine).machine
   becomes =
-      sym (turn_machine failed result s t machine.acknowledged keeps.inside.fits.safe.commit.turns (λ busy. (keeps.inside.fits.flight busy).new) leads)
+      sym (turn_machine old.failed result s t machine.acknowledged keeps.inside.fits.safe.commit.turns (λ busy. (keeps.inside.fits.flight busy).new) leads)
       ∙ ap (λ (m : Machine). (turn_by result m).machine) (machine_is keeps)
 
-  pub kept_turn : {new : D} {after : Bool} (laws : Laws) → Inside seen may_leave new t after (acknowledged_by result s machine.acknowledged)
-      → Keeps seen may_leave new t after (turn_by result machine).machine
-  kept_turn {new = new} {after = after} laws inside =
-      subst (Keeps seen may_leave new t after) becomes (kept_inside laws seen may_leave new t after (acknowledged_by result s machine.acknowledged) inside)
+  pub kept_turn : (laws : Laws) → Inside new (acknowledged_by result s machine.acknowledged) → Keeps new (turn_by result machine).machine
+  kept_turn laws inside = subst (Keeps new) becomes (kept_inside laws new (acknowledged_by result s machine.acknowledged) inside)
 
   -- Until it is acknowledged, a flight may be lost.
   before_done : (answers : List Answer) (image : List ℕ) → result ≡ Ok (steps.Done answers) → StandsFor (machine_of t machine.acknowledged) image → StandsFor machine image
   before_done answers image same stands =
-      let done : TurnLeads failed (Ok (steps.Done answers)) s t = subst (λ (r : Result Step Fault). TurnLeads failed r s t) same leads in
+      let done : TurnLeads old.failed (Ok (steps.Done answers)) s t = subst (λ (r : Result Step Fault). TurnLeads old.failed r s t) same leads in
       let rest : StandsFor (at_rest machine.acknowledged) image = subst (λ (p : Progress). StandsFor (machine_of p machine.acknowledged) image) done.4 stands in
       subst (λ (m : Machine). StandsFor m image) (sym (machine_by s machine.acknowledged done.1) ∙ machine_is keeps) (rest.0, inl rest.1, rest.2)
 
@@ -126,7 +121,6 @@ module _ {D : Type 0} {seen : D → List ℕ} {may_leave : D → List ℕ → Ty
   either image (Ok steps.Went) is stands = inr (subst (λ (m : Machine). StandsFor m image) (ap (λ (r : Result Step Fault). machine_of t (acknowledged_by r s machine.acknowledged)) (sym is) ∙ becomes) stands)
   either image (Err fault) is stands = inr (subst (λ (m : Machine). StandsFor m image) (ap (λ (r : Result Step Fault). machine_of t (acknowledged_by r s machine.acknowledged)) (sym is) ∙ becomes) stands)
 
-  pub since_turn : {before now : ℕ} {past since : ℕ → List ℕ → Type 0} {left : List ℕ → Type 0}
-      → LeavesOnly before now past since left (StandsBetween s t machine.acknowledged) → LeavesOnly before now past since left (StandsEither machine (turn_by result machine).machine)
-  since_turn leaves = since_map (StandsBetween s t machine.acknowledged) (StandsEither machine (turn_by result machine).machine)
+  pub since_turn : LeavesOnly old.device new.device (StandsBetween s t machine.acknowledged) → LeavesOnly old.device new.device (StandsEither machine (turn_by result machine).machine)
+  since_turn leaves = leaves_within
       (λ image stands. ⊎_elim (λ one. inl (subst (λ (m : Machine). StandsFor m image) (machine_is keeps) one)) (λ other. either image result refl other) stands) leaves

@@ -1,7 +1,7 @@
 -- Events are moves of the machine without a disk, and the facts that the machine keeps are kept.
 use Rattle.std.proofs.Common.{◌≡◌, inl, inr, ℕ, suc, ◌+◌, ◌≤◌, Bool, true, false, List, [], ◌∷◌, ◌++◌, Option, Some, None, Result, Ok, Err, length, refl, sym, ◌∙◌, ap, subst, arith, append_assoc}
 use Rattle.std.proofs.lemmas.List.{append-nil}
-use Rattle.std.specs.Prelude.{slice_index_or, if◌then◌else◌, not, ◌&&◌, ◌==◌}
+use Rattle.std.specs.Prelude.{slice_index_or}
 use Rattle.hpb_rules.specs.declared.command.Command.{Command}
 use Rattle.hpb_rules.specs.declared.letter.Answer.{Answer}
 use Rattle.hpb_rules.specs.declared.letter.Letter.{Letter}
@@ -24,9 +24,11 @@ use Rattle.hpb_engine.specs.declared.step.Fault.TheVariants as faults
 use Rattle.hpb_engine.specs.declared.step.Rest.{Rest}
 use Rattle.hpb_engine.specs.declared.step.Step.{Step}
 use Rattle.hpb_engine.specs.declared.progress.Progress.{Progress}
-use Rattle.hpb_engine.specs.Numbers.{end_of, may_be_open}
-use Rattle.hpb_engine.specs.Checkpoints.{CheckpointLeads, checkpoint_calls, step_calls}
+use Rattle.std.proofs.lemmas.Bool.Decides.{nat_tests}
+use Rattle.hpb_engine.specs.Checkpoints.{CheckpointLeads, checkpoint_calls}
 use Rattle.hpb_engine.specs.Steps.{turn_calls}
+use Rattle.hpb_disk.specs.Device.{Device}
+use Rattle.hpb_engine.specs.Keeping.{Running}
 use Rattle.hpb_engine.specs.Runs.{Drove, Follows, Holds, IsStepped, IsTurned, Pause, Ran, StandsAtOne}
 use Rattle.hpb_engine.specs.Runs as runs
 use Rattle.hpb_engine.specs.Points.{Point, IsMove, GoesOn, Go, start_at, last_of, machine_at, told_at, acknowledged_at, AreOfPauses, MayStandAt, IsCounted, IsKept, Survives}
@@ -43,19 +45,11 @@ record Moved (rules : Rules) (event : Event) (before after : Pause) (leaving : L
   works : fault ≡ None → after.failed ≡ false
 
 -- There is one call of the device at most.
-if_one : (test : Bool) (n m : ℕ) → n ≤ 1 → m ≤ 1 → (if test then n else m) ≤ 1
-if_one true n m first second = first
-if_one false n m first second = second
-
 one_turn : (failed : Bool) (s : Progress) → turn_calls failed s ≤ 1
-one_turn failed s = if_one failed 0 (if s.commit.busy then 1 else 0) (omega arith) (if_one s.commit.busy 1 0 (omega arith) (omega arith))
+one_turn failed s = grind (arith, nat_tests)
 
 one_step : (failed : Bool) (s : Progress) → checkpoint_calls failed s ≤ 1
-one_step failed s = if_one failed 0 (step_calls s) (omega arith)
-    (if_one (not (s.checkpoint.steps == 0)) 1 _ (omega arith)
-    (if_one (not s.retirement.going && not (s.window.covered == s.window.next)) _ _ (if_one s.checkpoint.other_open 1 0 (omega arith) (omega arith))
-    (if_one (s.retirement.upto == end_of s.window) _ _ (if_one s.retirement.going 1 0 (omega arith) (omega arith))
-    (if_one (may_be_open s.window s.retirement.upto) 1 0 (omega arith) (omega arith)))))
+one_step failed s = grind (arith, nat_tests)
 
 module _ (rules : Rules) (before after : Pause) (leaving : List Answer) (fault : Option Fault) where
   -- Letters that are handed back are no move.
@@ -278,13 +272,12 @@ module _ (run_joins : RunJoins) (run_is_moves : RunIsMoves) (rest_is_sound : Res
       kept_all now since events next pauses q points holds.2 go.1 same.2 before point later rest
 
   -- A run of an engine that keeps the first commands at rest.
-  pub survived : {D : Type 0} (seen : D → List ℕ) (may_leave : D → List ℕ → Type 0) (moment : D → ℕ) (left_since : D → ℕ → List ℕ → Type 0)
-      (at : ℕ) (s t : Progress) (after : Bool) (events : List Event) (disk : D) (answers : List Answer) (fault : Option Fault) → s.committed.rules ≡ rules
-      → (ran : Ran seen may_leave moment left_since (record { moment = at; progress = s; failed = false; machine = at_rest first }) events disk t after answers fault)
-      → (run : Survives rules first at (moment disk) (left_since disk) events answers fault)
-      × AreOfPauses rules first (record { moment = at; progress = s; failed = false; machine = at_rest first } ∷ ran.pauses) (start_at at ∷ run.points)
-  survived seen may_leave moment left_since at s t after events disk answers fault ruled ran =
-      let start : Pause = record { moment = at; progress = s; failed = false; machine = at_rest first } in
+  pub survived : (old : Device) (s : Progress) (events : List Event) (after : Running) (answers : List Answer) (fault : Option Fault) → s.committed.rules ≡ rules
+      → (ran : Ran (record { moment = old.moment; progress = s; failed = false; machine = at_rest first }) events after answers fault)
+      → (run : Survives rules first old after.device events answers fault)
+      × AreOfPauses rules first (record { moment = old.moment; progress = s; failed = false; machine = at_rest first } ∷ ran.pauses) (start_at old ∷ run.points)
+  survived old s events after answers fault ruled ran =
+      let start : Pause = record { moment = old.moment; progress = s; failed = false; machine = at_rest first } in
       let it = followed run_joins rules first events start [] ran.pauses answers fault refl ruled refl ran.drove in (
         record {
           points = it.points;
@@ -292,7 +285,7 @@ module _ (run_joins : RunJoins) (run_is_moves : RunIsMoves) (rest_is_sound : Res
           all = it.all;
           ends = it.ends ∙ ran.at_end;
           told = it.told;
-          kept = kept_all (moment disk) (left_since disk) events start ran.pauses (point_of start []) it.points ran.holds it.go it.same;
+          kept = kept_all after.device.moment after.device.left_since events start ran.pauses (point_of start []) it.points ran.holds it.go it.same;
         },
         it.same,
       )

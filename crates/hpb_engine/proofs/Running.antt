@@ -6,9 +6,9 @@ use Rattle.hpb_rules.specs.declared.letter.Answer.{Answer}
 use Rattle.hpb_rules.specs.declared.letter.Letter.{Letter}
 use Rattle.hpb_rules.specs.Machine.{Machine}
 use Rattle.hpb_disk.specs.Asked.{Asked}
-use Rattle.hpb_disk.specs.Images.{LeavesOnly}
+use Rattle.hpb_disk.specs.Device.{Device, LeavesOnly}
 use Rattle.hpb_engine.specs.declared.progress.Progress.{Progress}
-use Rattle.hpb_engine.specs.Keeping.{Keeps, StandsEither, StandsFor}
+use Rattle.hpb_engine.specs.Keeping.{Keeps, Running, StandsFor}
 use Rattle.hpb_engine.specs.declared.event.Event.{Event}
 use Rattle.hpb_engine.specs.declared.begun.Weight.{Weight}
 use Rattle.hpb_engine.specs.declared.begun.Weight.TheVariants as weights
@@ -18,30 +18,23 @@ use Rattle.hpb_engine.specs.declared.step.Turned.{Turned}
 use Rattle.hpb_engine.specs.declared.step.Turned.TheVariants as turns
 use Rattle.hpb_engine.specs.Numbers.{IsSafe}
 use Rattle.hpb_engine.specs.Offers.{begun_of, weight_of}
-use Rattle.hpb_engine.specs.Runs.{Drove, failed_by, fault_in, Follows, HasFailed, Holds, IsTold, Pause, Ran, StandsAtOne, Took, last_of}
+use Rattle.hpb_engine.specs.Runs.{Drove, failed_by, fault_in, Follows, HasFailed, Holds, IsTold, Pause, Ran, StandsAtOne, Took, last_of, pause_of}
 use Rattle.hpb_engine.specs.Steps.{OnDevice, step_of}
 
-abbrev pub pause_of : {D : Type 0} (moment : D → ℕ) → D → Progress → Bool → Machine → Pause
-pause_of moment disk s failed machine = record { moment = moment disk; progress = s; failed = failed; machine = machine }
-
-module _ {D : Type 0} {seen : D → List ℕ} {may_leave : D → List ℕ → Type 0} {moment : D → ℕ} {left_since : D → ℕ → List ℕ → Type 0}
-    (only_now : (disk : D) (image : List ℕ) → left_since disk (moment disk) image → may_leave disk image) where
-  -- A run without an event.
-  pub ran_none : {disk : D} {s : Progress} {failed : Bool} {machine : Machine} → Keeps seen may_leave disk s failed machine
-      → Ran seen may_leave moment left_since (pause_of moment disk s failed machine) [] disk s failed [] None
-  ran_none keeps = record {
-    pauses = [];
-    drove = (refl, refl);
-    holds = (omega arith, λ image left. inl (keeps.images image (only_now _ image left)));
-    at_end = refl;
-    progress_is = refl;
-    failed_is = refl;
-    keeps = keeps;
-  }
+-- A run without an event.
+pub ran_none : (run : Running) {machine : Machine} → Keeps run machine → Ran (pause_of run machine) [] run [] None
+ran_none run keeps = record {
+  pauses = [];
+  drove = (refl, refl);
+  holds = (omega arith, λ image left. inl (keeps.images image (run.device.only_now image left)));
+  at_end = refl;
+  progress_is = refl;
+  failed_is = refl;
+  keeps = keeps;
+}
 
 -- The facts at a pause whose machine is kept.
-pub told_of : {D : Type 0} {seen : D → List ℕ} {may_leave : D → List ℕ → Type 0} {disk : D} {now : ℕ} {s : Progress} {failed : Bool} {machine : Machine} → IsSafe s
-    → Keeps seen may_leave disk s failed machine → IsTold (record { moment = now; progress = s; failed = failed; machine = machine })
+pub told_of : {run : Running} {machine : Machine} → IsSafe run.progress → Keeps run machine → IsTold (pause_of run machine)
 told_of safe keeps = record { safe = safe; shows = keeps.shows; flight = keeps.flight }
 
 -- An image of the last pause, or of one after it, is one of a pause.
@@ -56,10 +49,10 @@ stands_still next (m ∷ pauses) image (inl here) = inl here
 stands_still next (m ∷ pauses) image (inr later) = inr (stands_still next pauses image later)
 
 -- The facts since each pause hold after one more event, and since the pause after it.
-module _ (before now : ℕ) (past since : ℕ → List ℕ → Type 0) (left images : List ℕ → Type 0) (leaves : LeavesOnly before now past since left images) (next : Pause)
-    (here : next.moment ≡ now) (only : (image : List ℕ) → since next.moment image → StandsFor next.machine image) where
+module _ {old new : Device} {images : List ℕ → Type 0} (leaves : LeavesOnly old new images) (next : Pause)
+    (here : next.moment ≡ new.moment) (only : (image : List ℕ) → new.left_since next.moment image → StandsFor next.machine image) where
   pub holds_on : (pause : Pause) (pauses : List Pause) → ((image : List ℕ) → images image → StandsFor (last_of pause pauses).machine image ⊎ StandsFor next.machine image)
-      → Holds before past pause pauses → Holds now since pause (pauses ++ next ∷ [])
+      → Holds old.moment old.left_since pause pauses → Holds new.moment new.left_since pause (pauses ++ next ∷ [])
   holds_on pause [] each holds = (
     omega (arith, holds.0, leaves.later),
     λ image left_then. ⊎_elim (λ was. stands_still next (pause ∷ []) image (holds.1 image was)) (λ new. stands_later pause next [] image (each image new)) (leaves.nothing_else pause.moment image holds.0 left_then),
@@ -85,32 +78,28 @@ drove_on (e ∷ events) rest pause (m ∷ pauses) more answers leaving told (inl
     inl (it.0, it.1 ++ leaving, it.2, drove_on events rest m pauses more it.1 leaving told it.3 next, ap (λ (l : List Answer). l ++ leaving) it.4 ∙ append_assoc it.0 it.1 leaving)
 drove_on (e ∷ events) rest pause (m ∷ pauses) more answers leaving told (inr it) next = absurd (let no = it.3 in cc)
 
-module _ {D : Type 0} {seen : D → List ℕ} {may_leave : D → List ℕ → Type 0} {moment : D → ℕ} {left_since : D → ℕ → List ℕ → Type 0}
-    (only_now : (disk : D) (image : List ℕ) → left_since disk (moment disk) image → may_leave disk image)
-    {start : Pause} {events : List Event} {event : Event} {old new : D} {s t : Progress} {failed after_failed : Bool} {answers leaving : List Answer}
-    (ran : Ran seen may_leave moment left_since start events old s failed answers None)
-    {fault : Option Fault} (took : Took seen may_leave moment left_since event old new s t failed after_failed (last_of start ran.pauses).machine leaving fault) where
+module _ {start : Pause} {events : List Event} {event : Event} {old new : Running} {answers leaving : List Answer} (ran : Ran start events old answers None)
+    {fault : Option Fault} (took : Took event old new (last_of start ran.pauses).machine leaving fault) where
   abbrev next : Pause
-  next = pause_of moment new t after_failed took.after
+  next = pause_of new took.after
 
-  last_is : pause_of moment old s failed (last_of start ran.pauses).machine ≡ last_of start ran.pauses
+  last_is : pause_of old (last_of start ran.pauses).machine ≡ last_of start ran.pauses
   last_is =
       let m = last_of start ran.pauses in
-      ap (λ (i : ℕ). record { moment = i; progress = s; failed = failed; machine = m.machine }) (sym ran.at_end)
-      ∙ ap (λ (p : Progress). record { moment = m.moment; progress = p; failed = failed; machine = m.machine }) (sym ran.progress_is)
+      ap (λ (i : ℕ). record { moment = i; progress = old.progress; failed = old.failed; machine = m.machine }) (sym ran.at_end)
+      ∙ ap (λ (p : Progress). record { moment = m.moment; progress = p; failed = old.failed; machine = m.machine }) (sym ran.progress_is)
       ∙ ap (λ (b : Bool). record { moment = m.moment; progress = m.progress; failed = b; machine = m.machine }) (sym ran.failed_is)
 
   follows : Follows event (last_of start ran.pauses) next leaving fault
   follows = subst (λ (m : Pause). Follows event m next leaving fault) last_is took.follows
 
-  holds : Holds (moment new) (left_since new) start (ran.pauses ++ next ∷ [])
-  holds = holds_on (moment old) (moment new) (left_since old) (left_since new) (may_leave new) (StandsEither (last_of start ran.pauses).machine took.after) took.since next refl
-      (λ image left. took.keeps.images image (only_now new image left)) start ran.pauses (λ image stands. stands) ran.holds
+  holds : Holds new.device.moment new.device.left_since start (ran.pauses ++ next ∷ [])
+  holds = holds_on took.since next refl (λ image left. took.keeps.images image (new.device.only_now image left)) start ran.pauses (λ image stands. stands) ran.holds
 
   after_last : last_of start (ran.pauses ++ next ∷ []) ≡ next
   after_last = last_more start next ran.pauses
 
-  more : (rest : List Event) (told : Option Fault) → Drove rest (last_of start ran.pauses) (next ∷ []) leaving told → Ran seen may_leave moment left_since start (events ++ rest) new t after_failed (answers ++ leaving) told
+  more : (rest : List Event) (told : Option Fault) → Drove rest (last_of start ran.pauses) (next ∷ []) leaving told → Ran start (events ++ rest) new (answers ++ leaving) told
   more rest told drove = record {
     pauses = ran.pauses ++ next ∷ [];
     drove = drove_on events rest start ran.pauses (next ∷ []) answers leaving told ran.drove drove;
@@ -118,15 +107,15 @@ module _ {D : Type 0} {seen : D → List ℕ} {may_leave : D → List ℕ → Ty
     at_end = ap (λ (m : Pause). m.moment) after_last;
     progress_is = ap (λ (m : Pause). m.progress) after_last;
     failed_is = ap (λ (m : Pause). m.failed) after_last;
-    keeps = subst (λ (m : Pause). Keeps seen may_leave new t after_failed m.machine) (sym after_last) took.keeps;
+    keeps = subst (λ (m : Pause). Keeps new m.machine) (sym after_last) took.keeps;
   }
 
   -- A run goes on with an event that works.
-  pub ran_on : fault ≡ None → Ran seen may_leave moment left_since start (events ++ event ∷ []) new t after_failed (answers ++ leaving) None
+  pub ran_on : fault ≡ None → Ran start (events ++ event ∷ []) new (answers ++ leaving) None
   ran_on none = more (event ∷ []) None (inl (leaving, [], subst (Follows event (last_of start ran.pauses) next leaving) none follows, (refl, refl), sym (append-nil leaving)))
 
   -- A run ends with an event at which the device fails; the others aren't taken.
-  pub ran_off : (others : List Event) (why : Fault) → fault ≡ Some why → Ran seen may_leave moment left_since start (events ++ event ∷ others) new t after_failed (answers ++ leaving) (Some why)
+  pub ran_off : (others : List Event) (why : Fault) → fault ≡ Some why → Ran start (events ++ event ∷ others) new (answers ++ leaving) (Some why)
   ran_off others why some = more (event ∷ others) (Some why) (inr (why, subst (Follows event (last_of start ran.pauses) next leaving) some follows, refl, refl))
 
 -- Whether there is a fault.
@@ -149,15 +138,20 @@ module _ (events : List Event) (at : ℕ) (event : Event) (inside : at < length 
       ∙ append_assoc (take at events) (event ∷ []) (drop (at + 1) events)
 
 -- Whether an engine has failed, and its device, by the result of its step.
-module _ {D T : Type 0} {moment : D → ℕ} {failures : D → ℕ} {trace : D → List Asked} {old new : D} {failed after : Bool} {count : ℕ} {call : List Asked} where
-  pub failed_is : (result : Result T Fault) → OnDevice moment failures trace old new failed after result count call → after ≡ failed_by result
+module _ {T : Type 0} {old new : Running} {call : List Asked} where
+  pub failed_is : (result : Result T Fault) → OnDevice old new result call → new.failed ≡ failed_by result
   failed_is (Ok told) is = is.works
   failed_is (Err fault) is = is.fails
 
-  pub has_failed : (result : Result T Fault) → OnDevice moment failures trace old new failed after result count call → HasFailed (fault_in result) (failures old) (failures new)
+  pub has_failed : (result : Result T Fault) → OnDevice old new result call → HasFailed (fault_in result) old.device new.device
   has_failed (Ok told) is = is.counted
   has_failed (Err faults.Device) is = (refl, is.cause refl)
-  has_failed (Err faults.Failed) is = ap failures (is.stays refl)
+  has_failed (Err faults.Failed) is = is.stays refl
+
+-- The fault of a run, if no call failed before it.
+pub failed_since : (first old new : Device) (fault : Option Fault) → old.failures ≡ first.failures → HasFailed fault old new → HasFailed fault first new
+failed_since first old new None none is = is ∙ none
+failed_since first old new (Some why) none is = (is.0, omega (arith, none, is.1))
 
 -- A turn and the step that reports it fail alike, and have the same fault.
 pub failed_step : (result : Result Turned Fault) (leaving : List Answer) → failed_by result ≡ failed_by (step_of result leaving)

@@ -16,7 +16,7 @@ use Rattle.hpb_slots.specs.Slots.{IsClosed as IsClosedSlot, Holds, other_of, pla
 use Rattle.hpb_engine.specs.declared.progress.Progress.{Progress}
 use Rattle.hpb_engine.specs.Cuts.{Cut, all, landed, shortened}
 use Rattle.hpb_engine.specs.Facts.{Facts, Fits, head_of}
-use Rattle.hpb_engine.specs.Keeping.{Inside, Keeps, StandsFor, machine_of}
+use Rattle.hpb_engine.specs.Keeping.{Inside, Keeps, Running, StandsFor, machine_of}
 use Rattle.hpb_engine.specs.Laws.{Laws}
 use Rattle.hpb_engine.specs.Numbers.{end_of, layout_of, may_be_open}
 use Rattle.hpb_engine.specs.Moves.{acknowledged, renewed}
@@ -136,12 +136,11 @@ may_stand laws s k image fits facts = by_busy s.commit.busy refl
     ]
 
 -- The facts inside give the sentence for callers.
-pub kept_inside : (laws : Laws) {D : Type 0} (seen : D → List ℕ) (may_leave : D → List ℕ → Type 0) (disk : D) (s : Progress) (failed : Bool) (history : List Command)
-    → Inside seen may_leave disk s failed history → Keeps seen may_leave disk s failed (machine_of s history)
-kept_inside laws seen may_leave disk s failed history inside = record {
-  shows = subst (λ (commands : List Command). Shows s.committed commands) (sym inside.whole) inside.fits.shows;
+pub kept_inside : (laws : Laws) (run : Running) (history : List Command) → Inside run history → Keeps run (machine_of run.progress history)
+kept_inside laws run history inside = record {
+  shows = subst (λ (commands : List Command). Shows run.progress.committed commands) (sym inside.whole) inside.fits.shows;
   flight = refl;
-  images = λ image left. subst (λ (commands : List Command). StandsFor (machine_of s commands) image) (sym inside.whole)
-      (may_stand laws s inside.cut image inside.fits (inside.images image left));
+  images = λ image left. subst (λ (commands : List Command). StandsFor (machine_of run.progress commands) image) (sym inside.whole)
+      (may_stand laws run.progress inside.cut image inside.fits (inside.images image left));
   inside = inside;
 }

@@ -1,7 +1,8 @@
 -- The result of a step of a checkpoint, in numbers of batches and of steps.
-use Rattle.std.specs.Prelude.{◌≡◌, ℕ, suc, ◌+◌, ◌-◌, ◌≤◌, ◌==◌, nat_le, Bool, true, false, not, ◌&&◌, ◌||◌, Result, Ok, Err, if◌then◌else◌}
+use Rattle.std.specs.Prelude.{◌≡◌, ℕ, suc, ◌+◌, ◌-◌, ◌≤◌, ◌==◌, nat_le, Bool, true, false, ◌&&◌, ◌||◌, length, Result, Ok, Err, if◌then◌else◌}
 use Rattle.hpb_engine.specs.declared.progress.Progress.{Progress}
-use Rattle.hpb_engine.specs.Numbers.{count_of, end_of, may_be_open}
+use Rattle.hpb_engine.specs.Asking.{step_asks}
+use Rattle.hpb_engine.specs.Numbers.{count_of, end_of}
 use Rattle.hpb_engine.specs.declared.step.Fault.{Fault}
 use Rattle.hpb_engine.specs.declared.step.Fault.TheVariants as faults
 use Rattle.hpb_engine.specs.declared.step.Part.{Part}
@@ -65,11 +66,7 @@ CheckpointLeads false result s t = StepLeads result s t × (result ≡ Err fault
 -- How many calls of the device a step makes: none if nothing is left to do, none for a gate that is closed already, and
 -- otherwise one.
 abbrev pub step_calls : Progress → ℕ
-step_calls s =
-    if not (s.checkpoint.steps == 0) then 1 else
-    (if not s.retirement.going && not (s.window.covered == s.window.next) then (if s.checkpoint.other_open then 1 else 0) else
-    (if s.retirement.upto == end_of s.window then (if s.retirement.going then 1 else 0) else
-    (if may_be_open s.window s.retirement.upto then 1 else 0)))
+step_calls s = length (step_asks s)
 
 -- The same, after a fault too: then it makes none.
 abbrev pub checkpoint_calls : (failed : Bool) → Progress → ℕ

@@ -3,6 +3,7 @@ use Rattle.std.specs.Prelude.{◌≡◌, ◌⊎◌, ℕ, Bool, false, List, Opti
 use Rattle.hpb_rules.specs.declared.command.Command.{Command}
 use Rattle.hpb_rules.specs.AuctionValue.{Shows}
 use Rattle.hpb_rules.specs.Machine.{Machine, Flight, MayStand}
+use Rattle.hpb_disk.specs.Device.{Device}
 use Rattle.hpb_recover.specs.Standing.{Stands}
 use Rattle.hpb_engine.specs.declared.progress.Commit.{Commit}
 use Rattle.hpb_engine.specs.declared.progress.Progress.{Progress}
@@ -33,19 +34,25 @@ StandsEither before after image = StandsFor before image ⊎ StandsFor after ima
 abbrev pub StandsBetween : Progress → Progress → List Command → List ℕ → Type 0
 StandsBetween s t history image = StandsEither (machine_of s history) (machine_of t history) image
 
--- The facts on which the sentence rests, in terms of the device's parts.
-pub record Inside {D : Type 0} (seen : D → List ℕ) (may_leave : D → List ℕ → Type 0) (disk : D) (s : Progress) (failed : Bool) (history : List Command) : Type 0 where
+-- An engine's device, its progress, and whether a call of the device has failed.
+pub record Running : Type 1 where
+  pub device : Device
+  pub progress : Progress
+  pub failed : Bool
+
+-- The facts on which the sentence rests.
+pub record Inside (run : Running) (history : List Command) : Type 0 where
   pub cut : Cut
   pub whole : history ≡ all cut
-  pub fits : Fits s cut
-  pub images : (image : List ℕ) → may_leave disk image → Facts s cut image
-  pub reads : failed ≡ false → Reads s cut (seen disk)
+  pub fits : Fits run.progress cut
+  pub images : (image : List ℕ) → run.device.may_leave image → Facts run.progress cut image
+  pub reads : run.failed ≡ false → Reads run.progress cut run.device.seen
 
 -- An engine keeps a machine if three things hold. Its committed auction shows the machine's acknowledged commands. The
 -- same batch is in flight, with as many turns. Every image that a crash now may leave stands for what a stop of the
 -- machine may leave.
-pub record Keeps {D : Type 0} (seen : D → List ℕ) (may_leave : D → List ℕ → Type 0) (disk : D) (s : Progress) (failed : Bool) (machine : Machine) : Type 0 where
-  pub shows : Shows s.committed machine.acknowledged
-  pub flight : machine.flight ≡ flight_of s.commit
-  pub images : (image : List ℕ) → may_leave disk image → StandsFor machine image
-  pub inside : Inside seen may_leave disk s failed machine.acknowledged
+pub record Keeps (run : Running) (machine : Machine) : Type 0 where
+  pub shows : Shows run.progress.committed machine.acknowledged
+  pub flight : machine.flight ≡ flight_of run.progress.commit
+  pub images : (image : List ℕ) → run.device.may_leave image → StandsFor machine image
+  pub inside : Inside run machine.acknowledged

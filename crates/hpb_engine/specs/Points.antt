@@ -2,7 +2,7 @@
 -- Source: this project's own. It is durable linearizability: every answer that was given holds after a stop, and
 -- nothing is found that wasn't requested. (Izraelevitz, Mendes, Scott, Linearizability of Persistent Memory Objects
 -- under a Full-System-Crash Failure Model, 2016.)
-use Rattle.std.specs.Prelude.{◌≡◌, ◌⊎◌, ℕ, ◌+◌, ◌≤◌, Bool, false, List, [], ◌∷◌, ◌++◌, Option, None, length, All}
+use Rattle.std.specs.Prelude.{◌≡◌, ◌⊎◌, ℕ, ◌+◌, ◌≤◌, false, List, [], ◌∷◌, ◌++◌, Option, None, length, All}
 use Rattle.hpb_rules.specs.declared.command.Command.{Command}
 use Rattle.hpb_rules.specs.declared.letter.Answer.{Answer}
 use Rattle.hpb_rules.specs.declared.reply.Reply.TheVariants as replies
@@ -17,6 +17,8 @@ use Rattle.hpb_recover.specs.Standing.{Stands}
 use Rattle.hpb_engine.specs.declared.event.Event.{Event}
 use Rattle.hpb_engine.specs.declared.event.Event.TheVariants as events
 use Rattle.hpb_engine.specs.declared.step.Fault.{Fault}
+use Rattle.hpb_disk.specs.Device.{Device}
+use Rattle.hpb_engine.specs.Keeping.{Running}
 use Rattle.hpb_engine.specs.Runs.{Pause, Ran}
 use Rattle.hpb_engine.specs.Starts.{IsStarted}
 use Rattle.hpb_engine.specs.declared.progress.Progress.{Progress}
@@ -47,8 +49,8 @@ pub record GoesOn (event : Event) (before after : Point) : Type 0 where
   pub next : after.moment ≤ before.moment + 1
 
 -- The start of a run.
-abbrev pub start_at : ℕ → Point
-start_at moment = record { moment = moment; moves = [] }
+abbrev pub start_at : Device → Point
+start_at device = record { moment = device.moment; moves = [] }
 
 -- Events from a point on, with a point after each that is taken.
 abbrev pub Go : List Event → Point → List Point → Type 0
@@ -125,16 +127,16 @@ module _ (rules : Rules) (first : List Command) where
 --
 -- A run of a device that stood for the first commands: there are points, one at the start and one after each event. No
 -- command that was acknowledged at one of them is lost.
-pub record Survives (rules : Rules) (first : List Command) (start now : ℕ) (since : ℕ → List ℕ → Type 0) (events : List Event) (answers : List Answer) (fault : Option Fault) : Type 0 where
+pub record Survives (rules : Rules) (first : List Command) (old new : Device) (events : List Event) (answers : List Answer) (fault : Option Fault) : Type 0 where
   pub points : List Point
-  pub go : Go events (start_at start) points
+  pub go : Go events (start_at old) points
   -- Without a fault all events are taken.
   pub all : fault ≡ None → length points ≡ length events
   -- The last point is the end: these are the answers that left.
-  pub ends : (last_of (start_at start) points).moment ≡ now
-  pub told : answers ≡ told_at rules first (last_of (start_at start) points)
+  pub ends : (last_of (start_at old) points).moment ≡ new.moment
+  pub told : answers ≡ told_at rules first (last_of (start_at old) points)
   -- However the points are cut at one of them.
-  pub kept : (before : List Point) (point : Point) (later : List Point) → start_at start ∷ points ≡ before ++ point ∷ later → IsKept rules first since point later
+  pub kept : (before : List Point) (point : Point) (later : List Point) → start_at old ∷ points ≡ before ++ point ∷ later → IsKept rules first new.left_since point later
 
 -- The auction found after a stop. It shows a history that begins with all that was acknowledged at the point. It
 -- is whole batches from the first on, and the answers that had left by then are true of it.
@@ -146,16 +148,15 @@ pub record IsFound (rules : Rules) (first : List Command) (point : Point) (later
   pub true_of : All (Fits rules history) (told_at rules first point)
 
 -- An image that may have been left since a point of a run.
-pub record IsLeft (start : Point) (points before : List Point) (point : Point) (later : List Point) (since : ℕ → List ℕ → Type 0) (image : List ℕ) : Type 0 where
-  pub cut : start ∷ points ≡ before ++ point ∷ later
-  pub left : since point.moment image
+pub record IsLeft (points before : List Point) (point : Point) (later : List Point) (device : Device) (image : List ℕ) : Type 0 where
+  pub cut : points ≡ before ++ point ∷ later
+  pub left : device.left_since point.moment image
 
 -- The points are those of a run of an engine that was started with the opened device, which stood for the first
 -- commands. The run says for each event what became of it and at which pause. An offer is dropped only if a batch is in
 -- flight or no clean frame is left.
-pub record AreOfRun {D : Type 0} (seen : D → List ℕ) (may_leave : D → List ℕ → Type 0) (moment : D → ℕ) (left_since : D → ℕ → List ℕ → Type 0)
-    (plan : Plan) (start : Point) (first : List Command) (points : List Point) (events : List Event) (disk : D) (progress : Progress) (failed : Bool) (answers : List Answer) (fault : Option Fault) : Type 0 where
+pub record AreOfRun (plan : Plan) (start : Point) (first : List Command) (points : List Point) (events : List Event) (run : Running) (answers : List Answer) (fault : Option Fault) : Type 0 where
   pub begun : Progress
   pub started : IsStarted begun plan
-  pub ran : Ran seen may_leave moment left_since (record { moment = start.moment; progress = begun; failed = false; machine = at_rest first }) events disk progress failed answers fault
+  pub ran : Ran (record { moment = start.moment; progress = begun; failed = false; machine = at_rest first }) events run answers fault
   pub paused : AreOfPauses plan.auction.rules first (record { moment = start.moment; progress = begun; failed = false; machine = at_rest first } ∷ ran.pauses) (start ∷ points)

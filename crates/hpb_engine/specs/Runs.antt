@@ -4,9 +4,9 @@ use Rattle.hpb_rules.specs.declared.letter.Answer.{Answer}
 use Rattle.hpb_rules.specs.declared.letter.Letter.{Letter}
 use Rattle.hpb_rules.specs.AuctionValue.{Shows}
 use Rattle.hpb_rules.specs.Machine.{Machine}
-use Rattle.hpb_disk.specs.Images.{LeavesOnly}
+use Rattle.hpb_disk.specs.Device.{Device, LeavesOnly}
 use Rattle.hpb_engine.specs.declared.progress.Progress.{Progress}
-use Rattle.hpb_engine.specs.Keeping.{Keeps, StandsEither, StandsFor, flight_of}
+use Rattle.hpb_engine.specs.Keeping.{Keeps, Running, StandsEither, StandsFor, flight_of}
 use Rattle.hpb_engine.specs.Numbers.{IsSafe}
 use Rattle.hpb_engine.specs.declared.begun.Begun.{Begun}
 use Rattle.hpb_engine.specs.declared.event.Event.{Event}
@@ -43,9 +43,9 @@ failed_by (Ok told) = false
 failed_by (Err fault) = true
 
 -- A fault is reported if and only if the number of the device's failures has risen, and it is 91.
-abbrev pub HasFailed : Option Fault → (before after : ℕ) → Type 0
-HasFailed None before after = after ≡ before
-HasFailed (Some fault) before after = (fault ≡ faults.Device) × (before < after)
+abbrev pub HasFailed : Option Fault → (old new : Device) → Type 0
+HasFailed None old new = new.failures ≡ old.failures
+HasFailed (Some fault) old new = (fault ≡ faults.Device) × (old.failures < new.failures)
 
 -- At a pause the committed auction shows the acknowledged commands. The batch in flight is the machine's, and the
 -- numbers of batches and frames agree.
@@ -119,24 +119,26 @@ abbrev pub Holds : (now : ℕ) (since : ℕ → List ℕ → Type 0) → Pause �
 Holds now since pause [] = (pause.moment ≤ now) × ((image : List ℕ) → since pause.moment image → StandsAtOne (pause ∷ []) image)
 Holds now since pause (next ∷ pauses) = (pause.moment ≤ now) × ((image : List ℕ) → since pause.moment image → StandsAtOne (pause ∷ next ∷ pauses) image) × Holds now since next pauses
 
+-- The pause of an engine that keeps this machine.
+abbrev pub pause_of : Running → Machine → Pause
+pause_of run machine = record { moment = run.device.moment; progress = run.progress; failed = run.failed; machine = machine }
+
 -- The facts after a run from a pause.
-pub record Ran {D : Type 0} (seen : D → List ℕ) (may_leave : D → List ℕ → Type 0) (moment : D → ℕ) (left_since : D → ℕ → List ℕ → Type 0)
-    (start : Pause) (events : List Event) (disk : D) (progress : Progress) (failed : Bool) (answers : List Answer) (fault : Option Fault) : Type 0 where
+pub record Ran (start : Pause) (events : List Event) (run : Running) (answers : List Answer) (fault : Option Fault) : Type 0 where
   pub pauses : List Pause
   -- Each event does what it does to the machine without a disk, and these are the answers that leave, in order.
   pub drove : Drove events start pauses answers fault
   -- Since each pause, no command that was acknowledged at it is lost.
-  pub holds : Holds (moment disk) (left_since disk) start pauses
+  pub holds : Holds run.device.moment run.device.left_since start pauses
   -- The last pause is that of the end, and the engine keeps its machine.
-  pub at_end : (last_of start pauses).moment ≡ moment disk
-  pub progress_is : (last_of start pauses).progress ≡ progress
-  pub failed_is : (last_of start pauses).failed ≡ failed
-  pub keeps : Keeps seen may_leave disk progress failed (last_of start pauses).machine
+  pub at_end : (last_of start pauses).moment ≡ run.device.moment
+  pub progress_is : (last_of start pauses).progress ≡ run.progress
+  pub failed_is : (last_of start pauses).failed ≡ run.failed
+  pub keeps : Keeps run (last_of start pauses).machine
 
 -- One event of an engine: the machine afterwards, which it keeps, and the images that a crash may have left since.
-pub record Took {D : Type 0} (seen : D → List ℕ) (may_leave : D → List ℕ → Type 0) (moment : D → ℕ) (left_since : D → ℕ → List ℕ → Type 0)
-    (event : Event) (old new : D) (s t : Progress) (failed after_failed : Bool) (machine : Machine) (leaving : List Answer) (fault : Option Fault) : Type 0 where
+pub record Took (event : Event) (old new : Running) (machine : Machine) (leaving : List Answer) (fault : Option Fault) : Type 0 where
   pub after : Machine
-  pub keeps : Keeps seen may_leave new t after_failed after
-  pub follows : Follows event (record { moment = moment old; progress = s; failed = failed; machine = machine }) (record { moment = moment new; progress = t; failed = after_failed; machine = after }) leaving fault
-  pub since : LeavesOnly (moment old) (moment new) (left_since old) (left_since new) (may_leave new) (StandsEither machine after)
+  pub keeps : Keeps new after
+  pub follows : Follows event (pause_of old machine) (pause_of new after) leaving fault
+  pub since : LeavesOnly old.device new.device (StandsEither machine after)

@@ -1,5 +1,5 @@
 -- The results of steps, their effects, and the images that a crash may leave since.
-use Rattle.std.specs.Prelude.{◌≡◌, ℕ, ◌+◌, ◌<◌, Bool, true, false, List, [], ◌∷◌, ◌++◌, Result, Ok, Err, MatchResult, OnOk, OnErr, ⊤, if◌then◌else◌}
+use Rattle.std.specs.Prelude.{◌≡◌, ℕ, ◌+◌, ◌<◌, Bool, true, false, List, [], ◌∷◌, ◌++◌, length, Result, Ok, Err, MatchResult, OnOk, OnErr, ⊤, if◌then◌else◌}
 use Rattle.hpb_rules.specs.declared.command.Command.{Command}
 use Rattle.hpb_rules.specs.declared.letter.Answer.{Answer}
 use Rattle.hpb_rules.specs.declared.refusal.Refusal.{Refusal}
@@ -7,9 +7,11 @@ use Rattle.hpb_rules.specs.declared.refusal.Refusal.TheVariants as refusals
 use Rattle.hpb_rules.specs.Machine.{Machine, Effect, turn}
 use Rattle.hpb_disk.specs.Asked.{Asked, Asks}
 use Rattle.hpb_disk.specs.Asked.Asked.{syncs}
-use Rattle.hpb_disk.specs.Images.{CountsFailure, Elapses, LeavesOnly, Only, Within}
+use Rattle.hpb_disk.specs.Device.{Device, LeavesOnly, MakesCall}
+use Rattle.hpb_disk.specs.Images.{Only}
 use Rattle.hpb_engine.specs.declared.progress.Progress.{Progress}
-use Rattle.hpb_engine.specs.Keeping.{Inside, StandsBetween}
+use Rattle.hpb_engine.specs.Asking.{turn_asks}
+use Rattle.hpb_engine.specs.Keeping.{Inside, Keeps, Running, StandsBetween, StandsEither}
 use Rattle.hpb_engine.specs.Moves.{turned, acknowledged}
 use Rattle.hpb_engine.specs.declared.step.Fault.{Fault}
 use Rattle.hpb_engine.specs.declared.step.Fault.TheVariants as faults
@@ -53,7 +55,7 @@ leaving_with (Err fault) = []
 
 -- How many calls of the device a turn makes.
 abbrev pub turn_calls : (failed : Bool) → Progress → ℕ
-turn_calls failed s = if failed then 0 else (if s.commit.busy then 1 else 0)
+turn_calls failed s = if failed then 0 else length (turn_asks s)
 
 -- What a turn changes, by its result: the fourth alone is the last one, and a failed third one counts.
 abbrev pub TurnLeads : (failed : Bool) → Result Step Fault → Progress → Progress → Type 0
@@ -65,11 +67,8 @@ TurnLeads failed (Err faults.Failed) s t = (failed ≡ true) × (t ≡ s)
 
 -- An image that a crash may have left since before the call stands for what a stop may leave, before the call or after
 -- it.
-abbrev pub LeavesBetween : {D : Type 0} (seen : D → List ℕ) (may_leave : D → List ℕ → Type 0) (moment : D → ℕ) (left_since : D → ℕ → List ℕ → Type 0)
-    (old new : D) (s t : Progress) (failed : Bool) → Type 0
-LeavesBetween seen may_leave moment left_since old new s t failed =
-    (history : List Command) → Inside seen may_leave old s failed history
-    → LeavesOnly (moment old) (moment new) (left_since old) (left_since new) (may_leave new) (StandsBetween s t history)
+abbrev pub LeavesBetween : (old new : Running) → Type 0
+LeavesBetween old new = (history : List Command) → Inside old history → LeavesOnly old.device new.device (StandsBetween old.progress new.progress history)
 
 -- The result of a step without its value: done, or a fault.
 abbrev pub outcome_of : {T : Type 0} → Result T Fault → Result ⊤ Fault
@@ -77,36 +76,38 @@ outcome_of (Ok told) = Ok tt
 outcome_of (Err fault) = Err fault
 
 -- A step as the device sees it. The device may have failed before.
-pub record OnDevice {D T : Type 0} (moment : D → ℕ) (failures : D → ℕ) (trace : D → List Asked) (old new : D) (failed after : Bool) (result : Result T Fault)
-    (count : ℕ) (call : List Asked) : Type 0 where
-  -- Its calls of the device are known beforehand: at most one.
-  pub calls : moment new ≡ moment old + count
+pub record OnDevice {T : Type 0} (old new : Running) (result : Result T Fault) (call : List Asked) : Type 0 where
+  -- Its calls of the device are known beforehand: at most one, and none after a fault.
+  pub calls : new.device.moment ≡ old.device.moment + (if old.failed then 0 else length call)
   -- It makes the one call of this step, if there is one, whether that succeeds or not.
-  pub asked : failed ≡ false → Asks result call (trace old) (trace new)
+  pub asked : old.failed ≡ false → Asks result call old.device.asked new.device.asked
   -- 91 comes only if a call of the device failed in this step, and 93 if and only if one failed before it.
-  pub cause : result ≡ Err faults.Device → failures old < failures new
-  pub counted : OnOk result (failures new ≡ failures old)
-  -- After a fault there is no call.
-  pub stays : result ≡ Err faults.Failed → new ≡ old
-  pub works : OnOk result (after ≡ false)
-  pub fails : OnErr result (after ≡ true)
+  pub cause : result ≡ Err faults.Device → old.device.failures < new.device.failures
+  pub counted : OnOk result (new.device.failures ≡ old.device.failures)
+  -- After a fault no failure is counted.
+  pub stays : result ≡ Err faults.Failed → new.device.failures ≡ old.device.failures
+  pub works : OnOk result (new.failed ≡ false)
+  pub fails : OnErr result (new.failed ≡ true)
 
--- The same, and: if the facts about the parts of the device hold before a step, they hold after it, with the
--- acknowledged commands that follow.
-pub record Called {D : Type 0} (seen : D → List ℕ) (may_leave : D → List ℕ → Type 0) (moment : D → ℕ) (left_since : D → ℕ → List ℕ → Type 0) (failures : D → ℕ)
-    (trace : D → List Asked) (old new : D) (s t : Progress) (failed after : Bool) (outcome : Result ⊤ Fault) (later : List Command → List Command)
-    (count : ℕ) (call : List Asked) : Type 0 where
-  pub keeps : (history : List Command) → Inside seen may_leave old s failed history → Inside seen may_leave new t after (later history)
-  pub since : LeavesBetween seen may_leave moment left_since old new s t failed
-  pub device : OnDevice moment failures trace old new failed after outcome count call
+-- The same, and: if the facts about the device hold before a step, they hold after it, with the acknowledged commands
+-- that follow.
+pub record Called (old new : Running) (outcome : Result ⊤ Fault) (later : List Command → List Command) (call : List Asked) : Type 0 where
+  pub keeps : (history : List Command) → Inside old history → Inside new (later history)
+  pub since : LeavesBetween old new
+  pub device : OnDevice old new outcome call
+
+-- A call of an engine that keeps a machine. Afterwards it keeps the machine that the effect leaves, and the effect's
+-- answers leave. An image that a crash may leave since the call began stands for what a stop may leave before the call
+-- or after it.
+pub record HasEffect (old new : Running) (effect : Machine → Effect) (leaving : List Answer) : Type 0 where
+  pub keeps : (machine : Machine) → Keeps old machine → Keeps new (effect machine).machine
+  pub answers : (machine : Machine) → Keeps old machine → leaving ≡ (effect machine).leaving
+  pub since : (machine : Machine) → Keeps old machine → LeavesOnly old.device new.device (StandsEither machine (effect machine).machine)
 
 -- A sync whose failure is reported.
-pub record Synced {D : Type 0} (seen : D → List ℕ) (may_leave : D → List ℕ → Type 0) (moment : D → ℕ) (left_since : D → ℕ → List ℕ → Type 0) (failures : D → ℕ)
-    (trace : D → List Asked) (old new : D) (after : Bool) (result : Result ⊤ Fault) : Type 0 where
-  pub durable : OnOk result (Only (seen old) (may_leave new))
-  pub seen_still : seen new ≡ seen old
-  pub crash : Within (may_leave new) (may_leave old)
-  pub time : Elapses (moment old) (moment new) (left_since old) (left_since new) (may_leave old)
-  pub cause : CountsFailure result (failures old) (failures new)
-  pub asked : Asks result (syncs ∷ []) (trace old) (trace new)
+pub record Synced (old new : Device) (after : Bool) (result : Result ⊤ Fault) : Type 0 where
+  pub durable : OnOk result (Only old.seen new.may_leave)
+  pub seen_still : new.seen ≡ old.seen
+  pub crash : LeavesOnly old new old.may_leave
+  pub call : MakesCall result (syncs ∷ []) old new
   pub told : MatchResult result (λ _. after ≡ false) (λ fault. (fault ≡ faults.Device) × (after ≡ true))

@@ -23,7 +23,7 @@ pub(crate) fn tell(done: Result<(), DiskFailed>, failed: &mut bool) -> Result<()
 /// Syncs the device. If the sync fails, the fault is 91 `device`, and the engine counts as failed from then on.
 pub(crate) fn sync<D: Disk + Drop>(disk: &mut D, failed: &mut bool) -> Result<(), Fault>
     requires works { failed.old ≡ false }
-    ensures { Synced D.seen D.may_leave D.moment D.left_since D.failures D.asked disk.old disk.new failed.new result }
+    ensures { Synced (D.device disk.old) (D.device disk.new) failed.new result }
 {
     match disk.sync() {
         Ok(()) => Ok(()),

@@ -2,8 +2,8 @@
 ghost use Rattle.std.specs.Prelude.{◌≡◌, ◌+◌, ◌<◌, ◌≤◌, false, IfErr, OnErr, OnOk};
 ghost use Rattle.hpb_engine.specs.Moves.{snapped, emptied, stepped, renewed};
 ghost use Rattle.hpb_engine.specs.Asking.{step_asks};
-ghost use Rattle.hpb_engine.specs.Checkpoints.{checkpoint_calls};
-ghost use Rattle.hpb_engine.specs.Steps.{Called, outcome_of};
+ghost use Rattle.hpb_engine.specs.Steps.{outcome_of};
+ghost use Rattle.hpb_engine.specs.Engines.{Called};
 
 use crate::calls::{sync, tell};
 use crate::engine::Engine;
@@ -23,7 +23,7 @@ impl<D: Disk + Drop> Engine<D> {
         requires works { self.old.failed ≡ false }
         ensures progress { self.new.progress ≡ snapped self.old.progress self.new.progress }
         ensures fault { IfErr result (λ fault. fault ≡ Fault.Device) }
-        ensures called { Called D.seen D.may_leave D.moment D.left_since D.failures D.asked self.old.disk self.new.disk self.old.progress self.new.progress self.old.failed self.new.failed (outcome_of result) (λ history. history) (checkpoint_calls self.old.failed self.old.progress) (step_asks self.old.progress) }
+        ensures called { Called self.old self.new (outcome_of result) (λ history. history) (step_asks self.old.progress) }
     {
         laws_below();
         take_snapshot(
@@ -48,7 +48,7 @@ impl<D: Disk + Drop> Engine<D> {
         ensures ok { OnOk result (self.new.progress ≡ emptied self.old.progress) }
         ensures err { OnErr result (self.new.progress ≡ self.old.progress) }
         ensures fault { IfErr result (λ fault. fault ≡ Fault.Device) }
-        ensures called { Called D.seen D.may_leave D.moment D.left_since D.failures D.asked self.old.disk self.new.disk self.old.progress self.new.progress self.old.failed self.new.failed (outcome_of result) (λ history. history) (checkpoint_calls self.old.failed self.old.progress) (step_asks self.old.progress) }
+        ensures called { Called self.old self.new (outcome_of result) (λ history. history) (step_asks self.old.progress) }
     {
         laws_below();
         sync(&mut self.disk, &mut self.failed)?;
@@ -64,7 +64,7 @@ impl<D: Disk + Drop> Engine<D> {
         requires works { self.old.failed ≡ false }
         ensures progress { self.new.progress ≡ stepped self.old.progress (self.old.progress.checkpoint.steps + 1) }
         ensures fault { IfErr result (λ fault. fault ≡ Fault.Device) }
-        ensures called { Called D.seen D.may_leave D.moment D.left_since D.failures D.asked self.old.disk self.new.disk self.old.progress self.new.progress self.old.failed self.new.failed (outcome_of result) (λ history. history) (checkpoint_calls self.old.failed self.old.progress) (step_asks self.old.progress) }
+        ensures called { Called self.old self.new (outcome_of result) (λ history. history) (step_asks self.old.progress) }
     {
         laws_below();
         let chunk = usize::from(self.progress.checkpoint.steps - 2);
@@ -82,7 +82,7 @@ impl<D: Disk + Drop> Engine<D> {
         ensures ok { OnOk result (self.new.progress ≡ stepped self.old.progress 7) }
         ensures err { OnErr result (self.new.progress ≡ self.old.progress) }
         ensures fault { IfErr result (λ fault. fault ≡ Fault.Device) }
-        ensures called { Called D.seen D.may_leave D.moment D.left_since D.failures D.asked self.old.disk self.new.disk self.old.progress self.new.progress self.old.failed self.new.failed (outcome_of result) (λ history. history) (checkpoint_calls self.old.failed self.old.progress) (step_asks self.old.progress) }
+        ensures called { Called self.old self.new (outcome_of result) (λ history. history) (step_asks self.old.progress) }
     {
         laws_below();
         sync(&mut self.disk, &mut self.failed)?;
@@ -96,7 +96,7 @@ impl<D: Disk + Drop> Engine<D> {
         requires works { self.old.failed ≡ false }
         ensures progress { self.new.progress ≡ stepped self.old.progress 8 }
         ensures fault { IfErr result (λ fault. fault ≡ Fault.Device) }
-        ensures called { Called D.seen D.may_leave D.moment D.left_since D.failures D.asked self.old.disk self.new.disk self.old.progress self.new.progress self.old.failed self.new.failed (outcome_of result) (λ history. history) (checkpoint_calls self.old.failed self.old.progress) (step_asks self.old.progress) }
+        ensures called { Called self.old self.new (outcome_of result) (λ history. history) (step_asks self.old.progress) }
     {
         laws_below();
         self.progress.checkpoint.steps = 8;
@@ -112,7 +112,7 @@ impl<D: Disk + Drop> Engine<D> {
         ensures ok { OnOk result (self.new.progress ≡ renewed self.old.progress) }
         ensures err { OnErr result (self.new.progress ≡ self.old.progress) }
         ensures fault { IfErr result (λ fault. fault ≡ Fault.Device) }
-        ensures called { Called D.seen D.may_leave D.moment D.left_since D.failures D.asked self.old.disk self.new.disk self.old.progress self.new.progress self.old.failed self.new.failed (outcome_of result) (λ history. history) (checkpoint_calls self.old.failed self.old.progress) (step_asks self.old.progress) }
+        ensures called { Called self.old self.new (outcome_of result) (λ history. history) (step_asks self.old.progress) }
     {
         laws_below();
         sync(&mut self.disk, &mut self.failed)?;

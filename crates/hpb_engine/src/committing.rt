@@ -1,11 +1,9 @@
 //! A commit, by turns of one device call each.
-ghost use Rattle.std.specs.Prelude.{◌≡◌, ◌+◌, ◌<◌, ◌++◌, ℕ, List, [], Ok, true, false, is_ok, IfErr, OnErr, OnOk, if◌then◌else◌};
-ghost use Rattle.hpb_rules.specs.Machine.{Machine};
-ghost use Rattle.hpb_disk.specs.Images.{LeavesOnly};
-ghost use Rattle.hpb_engine.specs.Keeping.{Keeps, StandsEither};
+ghost use Rattle.std.specs.Prelude.{◌≡◌, ◌+◌, ◌<◌, ◌++◌, ℕ, List, [], Ok, Err, true, false, is_ok, IfErr, OnErr, OnOk, if◌then◌else◌};
+ghost use Rattle.hpb_engine.specs.Engines.{Called, HasEffect, OnDevice};
 ghost use Rattle.hpb_engine.specs.Moves.{turned, acknowledged};
 ghost use Rattle.hpb_engine.specs.Asking.{turn_asks};
-ghost use Rattle.hpb_engine.specs.Steps.{Called, OnDevice, TurnLeads, acknowledged_by, leaving_with, outcome_of, step_of, turn_by, turn_calls};
+ghost use Rattle.hpb_engine.specs.Steps.{TurnLeads, acknowledged_by, leaving_with, outcome_of, step_of, turn_by};
 
 use crate::calls::{sync, tell};
 use crate::engine::Engine;
@@ -25,7 +23,7 @@ impl<D: Disk + Drop> Engine<D> {
         ensures ok { OnOk result (self.new.progress ≡ turned self.old.progress 1) }
         ensures err { OnErr result (self.new.progress ≡ self.old.progress) }
         ensures fault { IfErr result (λ fault. fault ≡ Fault.Device) }
-        ensures called { Called D.seen D.may_leave D.moment D.left_since D.failures D.asked self.old.disk self.new.disk self.old.progress self.new.progress self.old.failed self.new.failed (outcome_of result) (λ history. history) (turn_calls self.old.failed self.old.progress) (turn_asks self.old.progress) }
+        ensures called { Called self.old self.new (outcome_of result) (λ history. history) (turn_asks self.old.progress) }
     {
         laws_below();
         let progress = &self.progress;
@@ -46,7 +44,7 @@ impl<D: Disk + Drop> Engine<D> {
         ensures ok { OnOk result (self.new.progress ≡ turned self.old.progress 2) }
         ensures err { OnErr result (self.new.progress ≡ self.old.progress) }
         ensures fault { IfErr result (λ fault. fault ≡ Fault.Device) }
-        ensures called { Called D.seen D.may_leave D.moment D.left_since D.failures D.asked self.old.disk self.new.disk self.old.progress self.new.progress self.old.failed self.new.failed (outcome_of result) (λ history. history) (turn_calls self.old.failed self.old.progress) (turn_asks self.old.progress) }
+        ensures called { Called self.old self.new (outcome_of result) (λ history. history) (turn_asks self.old.progress) }
     {
         laws_below();
         sync(&mut self.disk, &mut self.failed)?;
@@ -61,7 +59,7 @@ impl<D: Disk + Drop> Engine<D> {
         requires works { self.old.failed ≡ false }
         ensures progress { self.new.progress ≡ turned self.old.progress 3 }
         ensures fault { IfErr result (λ fault. fault ≡ Fault.Device) }
-        ensures called { Called D.seen D.may_leave D.moment D.left_since D.failures D.asked self.old.disk self.new.disk self.old.progress self.new.progress self.old.failed self.new.failed (outcome_of result) (λ history. history) (turn_calls self.old.failed self.old.progress) (turn_asks self.old.progress) }
+        ensures called { Called self.old self.new (outcome_of result) (λ history. history) (turn_asks self.old.progress) }
     {
         laws_below();
         self.progress.commit.turns = 3;
@@ -81,7 +79,7 @@ impl<D: Disk + Drop> Engine<D> {
         ensures err { OnErr result (self.new.progress ≡ self.old.progress) }
         ensures silent { OnErr result (leaving.new ≡ []) }
         ensures fault { IfErr result (λ fault. fault ≡ Fault.Device) }
-        ensures called { Called D.seen D.may_leave D.moment D.left_since D.failures D.asked self.old.disk self.new.disk self.old.progress self.new.progress self.old.failed self.new.failed (outcome_of result) (λ history. if is_ok result then history ++ self.old.progress.commit.batch.commands else history) (turn_calls self.old.failed self.old.progress) (turn_asks self.old.progress) }
+        ensures called { Called self.old self.new (outcome_of result) (λ history. if is_ok result then history ++ self.old.progress.commit.batch.commands else history) (turn_asks self.old.progress) }
     {
         laws_below();
         sync(&mut self.disk, &mut self.failed)?;
@@ -103,9 +101,10 @@ impl<D: Disk + Drop> Engine<D> {
         ensures leads { TurnLeads self.old.failed (step_of result leaving.new) self.old.progress self.new.progress }
         ensures leaving { leaving.new ≡ leaving_with (step_of result leaving.new) }
         ensures rules { self.new.progress.committed.rules ≡ self.old.progress.committed.rules }
-        // A turn with nothing in flight makes no call.
+        // A turn with nothing in flight makes no call, and none is made after a fault.
         ensures idle { result ≡ Ok Turned.Idle → self.new.disk ≡ self.old.disk }
-        ensures called { Called D.seen D.may_leave D.moment D.left_since D.failures D.asked self.old.disk self.new.disk self.old.progress self.new.progress self.old.failed self.new.failed (outcome_of result) (acknowledged_by (step_of result leaving.new) self.old.progress) (turn_calls self.old.failed self.old.progress) (turn_asks self.old.progress) }
+        ensures refused { result ≡ Err Fault.Failed → self.new.disk ≡ self.old.disk }
+        ensures called { Called self.old self.new (outcome_of result) (acknowledged_by (step_of result leaving.new) self.old.progress) (turn_asks self.old.progress) }
     {
         laws_below();
         if self.failed {
@@ -142,25 +141,19 @@ impl<D: Disk + Drop> Engine<D> {
     /// 91 `device`: the call failed. 93 `failed`: an earlier call failed; the device has to be opened again.
     pub fn make_turn(&mut self, leaving: &mut Answers) -> Result<Turned, Fault>
         // If the engine keeps a machine before the turn, it keeps the machine after a turn of its own, and the
-        // machine's answers leave.
-        ensures keeps { (machine : Machine) → Keeps D.seen D.may_leave self.old.disk self.old.progress self.old.failed machine
-            → Keeps D.seen D.may_leave self.new.disk self.new.progress self.new.failed (turn_by (step_of result leaving.new) machine).machine }
-        ensures leaving { (machine : Machine) → Keeps D.seen D.may_leave self.old.disk self.old.progress self.old.failed machine
-            → leaving.new ≡ (turn_by (step_of result leaving.new) machine).leaving }
+        // machine's answers leave. An image that a crash may leave since the call began stands for what a stop may
+        // leave before the turn or after it.
+        ensures effect { HasEffect self.old self.new (turn_by (step_of result leaving.new)) leaving.new }
         // Answers leave with the last turn, and with no other.
         ensures last { leaving.new ≡ leaving_with (step_of result leaving.new) }
-        // An image that a crash may leave since the call began stands for what a stop may leave before the turn or
-        // after it.
-        ensures since { (machine : Machine) → Keeps D.seen D.may_leave self.old.disk self.old.progress self.old.failed machine
-            → LeavesOnly (D.moment self.old.disk) (D.moment self.new.disk) (D.left_since self.old.disk) (D.left_since self.new.disk)
-            (D.may_leave self.new.disk) (StandsEither machine (turn_by (step_of result leaving.new) machine).machine) }
         // It is idle with nothing in flight, and done on the fourth turn, and on no other.
         ensures leads { TurnLeads self.old.failed (step_of result leaving.new) self.old.progress self.new.progress }
         ensures rules { self.new.progress.committed.rules ≡ self.old.progress.committed.rules }
         // It makes at most one call of the device, known beforehand, and reports its failure.
-        ensures device { OnDevice D.moment D.failures D.asked self.old.disk self.new.disk self.old.failed self.new.failed result (turn_calls self.old.failed self.old.progress) (turn_asks self.old.progress) }
-        // A turn with nothing in flight makes no call.
+        ensures device { OnDevice self.old self.new result (turn_asks self.old.progress) }
+        // A turn with nothing in flight makes no call, and none is made after a fault.
         ensures idle { result ≡ Ok Turned.Idle → self.new.disk ≡ self.old.disk }
+        ensures refused { result ≡ Err Fault.Failed → self.new.disk ≡ self.old.disk }
     {
         laws_below();
         leaving.clear();
@@ -176,23 +169,17 @@ impl<D: Disk + Drop> Engine<D> {
     /// 91 `device`: the call failed. 93 `failed`: an earlier call failed; the device has to be opened again.
     pub fn commit_step(&mut self) -> Result<Step, Fault>
         // If the engine keeps a machine before the turn, it keeps the machine after a turn of its own, and the
-        // machine's answers leave.
-        ensures keeps { (machine : Machine) → Keeps D.seen D.may_leave self.old.disk self.old.progress self.old.failed machine
-            → Keeps D.seen D.may_leave self.new.disk self.new.progress self.new.failed (turn_by result machine).machine }
-        ensures leaving { (machine : Machine) → Keeps D.seen D.may_leave self.old.disk self.old.progress self.old.failed machine
-            → leaving_with result ≡ (turn_by result machine).leaving }
-        // An image that a crash may leave since the call began stands for what a stop may leave before the turn or
-        // after it.
-        ensures since { (machine : Machine) → Keeps D.seen D.may_leave self.old.disk self.old.progress self.old.failed machine
-            → LeavesOnly (D.moment self.old.disk) (D.moment self.new.disk) (D.left_since self.old.disk) (D.left_since self.new.disk)
-            (D.may_leave self.new.disk) (StandsEither machine (turn_by result machine).machine) }
+        // machine's answers leave. An image that a crash may leave since the call began stands for what a stop may
+        // leave before the turn or after it.
+        ensures effect { HasEffect self.old self.new (turn_by result) (leaving_with result) }
         // It is idle with nothing in flight, and done on the fourth turn, and on no other.
         ensures leads { TurnLeads self.old.failed result self.old.progress self.new.progress }
         ensures rules { self.new.progress.committed.rules ≡ self.old.progress.committed.rules }
         // It makes at most one call of the device, known beforehand, and reports its failure.
-        ensures device { OnDevice D.moment D.failures D.asked self.old.disk self.new.disk self.old.failed self.new.failed result (turn_calls self.old.failed self.old.progress) (turn_asks self.old.progress) }
-        // A turn with nothing in flight makes no call.
+        ensures device { OnDevice self.old self.new result (turn_asks self.old.progress) }
+        // A turn with nothing in flight makes no call, and none is made after a fault.
         ensures idle { result ≡ Ok Step.Idle → self.new.disk ≡ self.old.disk }
+        ensures refused { result ≡ Err Fault.Failed → self.new.disk ≡ self.old.disk }
     {
         let mut leaving = Answers::new();
         match self.make_turn(&mut leaving)? {

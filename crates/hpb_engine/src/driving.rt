@@ -2,8 +2,8 @@
 ghost use Rattle.std.specs.Prelude.{◌≡◌, ◌+◌, ◌*◌, ◌≤◌, ◌++◌, List, [], length, vec_len, vec_capacity, IfOk, IfErr, OnErr};
 ghost use Rattle.hpb_rules.specs.declared.limits.TheConstants.{MOST_LETTERS};
 ghost use Rattle.hpb_rules.specs.Machine.{Machine};
-ghost use Rattle.hpb_engine.specs.Keeping.{Keeps};
-ghost use Rattle.hpb_engine.specs.Runs.{HasFailed, Ran, Took, fault_in};
+ghost use Rattle.hpb_engine.specs.Engines.{Keeps, Ran, Took, pause_of};
+ghost use Rattle.hpb_engine.specs.Runs.{HasFailed, fault_in};
 
 use crate::engine::Engine;
 use crate::event::Event;
@@ -39,10 +39,9 @@ fn take_event<D: Disk + Drop>(
     leaving: &mut Answers,
 ) -> Option<Fault>
     requires none { leaving.old ≡ [] }
-    ensures took { (machine : Machine) → Keeps D.seen D.may_leave engine.old.disk engine.old.progress engine.old.failed machine
-        → Took D.seen D.may_leave D.moment D.left_since event.now engine.old.disk engine.new.disk engine.old.progress engine.new.progress
-        engine.old.failed engine.new.failed machine leaving.new result }
-    ensures cause { HasFailed result (D.failures engine.old.disk) (D.failures engine.new.disk) }
+    ensures took { (machine : Machine) → Keeps engine.old machine
+        → Took event.now engine.old engine.new machine leaving.new result }
+    ensures cause { HasFailed result (D.device engine.old.disk) (D.device engine.new.disk) }
 {
     match event {
         Event::Offer(letters) => {
@@ -72,11 +71,9 @@ fn take_all<D: Disk + Drop>(
 ) -> Option<Fault>
     requires room { vec_len answers.old + MOST_LETTERS * length events.now ≤ vec_capacity answers.old }
     requires none { answers.old.items ≡ [] }
-    ensures ran { (machine : Machine) → Keeps D.seen D.may_leave engine.old.disk engine.old.progress engine.old.failed machine
-        → Ran D.seen D.may_leave D.moment D.left_since
-        (record { moment = D.moment engine.old.disk; progress = engine.old.progress; failed = engine.old.failed; machine = machine })
-        events.now engine.new.disk engine.new.progress engine.new.failed answers.new.items result }
-    ensures cause { HasFailed result (D.failures engine.old.disk) (D.failures engine.new.disk) }
+    ensures ran { (machine : Machine) → Keeps engine.old machine
+        → Ran (pause_of engine.old machine) events.now engine.new answers.new.items result }
+    ensures cause { HasFailed result (D.device engine.old.disk) (D.device engine.new.disk) }
 {
     let mut leaving = Answers::new();
     for event in events {
@@ -96,15 +93,11 @@ impl<D: Disk + Drop> Engine<D> {
     ///
     /// Room for all answers is made first. 90 `memory` if memory is refused: no event is taken, and nothing changes.
     pub fn run(&mut self, alloc: Global, events: &[Event]) -> Result<Run, AllocError>
-        ensures ran { (machine : Machine) → Keeps D.seen D.may_leave self.old.disk self.old.progress self.old.failed machine
-            → IfOk result (λ run. Ran D.seen D.may_leave D.moment D.left_since
-            (record { moment = D.moment self.old.disk; progress = self.old.progress; failed = self.old.failed; machine = machine })
-            events.now self.new.disk self.new.progress self.new.failed run.answers.items run.fault) }
+        ensures ran { (machine : Machine) → Keeps self.old machine
+            → IfOk result (λ run. Ran (pause_of self.old machine) events.now self.new run.answers.items run.fault) }
         // The fault is 91 if and only if a call of the device failed in this run.
-        ensures cause { IfOk result (λ run. HasFailed run.fault (D.failures self.old.disk) (D.failures self.new.disk)) }
-        ensures disk { OnErr result (self.new.disk ≡ self.old.disk) }
-        ensures progress { OnErr result (self.new.progress ≡ self.old.progress) }
-        ensures failed { OnErr result (self.new.failed ≡ self.old.failed) }
+        ensures cause { IfOk result (λ run. HasFailed run.fault (D.device self.old.disk) (D.device self.new.disk)) }
+        ensures back { OnErr result ((self.new.disk ≡ self.old.disk) × (self.new.progress ≡ self.old.progress) × (self.new.failed ≡ self.old.failed)) }
     {
         let mut answers = Vec::with_capacity(alloc, MOST_LETTERS * events.len())?;
         let fault = take_all(self, events, &mut answers);
@@ -127,12 +120,10 @@ pub fn drive<D: Disk + Drop>(
     engine: Engine<D>,
     events: &[Event],
 ) -> Result<Driven<D>, Engine<D>>
-    ensures ran { (machine : Machine) → Keeps D.seen D.may_leave engine.disk engine.progress engine.failed machine
-        → IfOk result (λ driven. Ran D.seen D.may_leave D.moment D.left_since
-        (record { moment = D.moment engine.disk; progress = engine.progress; failed = engine.failed; machine = machine })
-        events.now driven.engine.disk driven.engine.progress driven.engine.failed driven.answers.items driven.fault) }
+    ensures ran { (machine : Machine) → Keeps engine machine
+        → IfOk result (λ driven. Ran (pause_of engine machine) events.now driven.engine driven.answers.items driven.fault) }
     // The fault is 91 if and only if a call of the device failed in this run.
-    ensures cause { IfOk result (λ driven. HasFailed driven.fault (D.failures engine.disk) (D.failures driven.engine.disk)) }
+    ensures cause { IfOk result (λ driven. HasFailed driven.fault (D.device engine.disk) (D.device driven.engine.disk)) }
     ensures back { IfErr result (λ back. (back.disk ≡ engine.disk) × (back.progress ≡ engine.progress) × (back.failed ≡ engine.failed)) }
 {
     let mut engine = engine;

@@ -1,7 +1,7 @@
 //! Offering letters to an engine.
 ghost use Rattle.std.specs.Prelude.{◌≡◌, [], IfSome, None};
-ghost use Rattle.hpb_rules.specs.Machine.{Machine, take_letters};
-ghost use Rattle.hpb_engine.specs.Keeping.{Keeps};
+ghost use Rattle.hpb_rules.specs.Machine.{take_letters};
+ghost use Rattle.hpb_engine.specs.Engines.{HasEffect};
 ghost use Rattle.hpb_engine.specs.Offers.{AreJudged, CanTake, HandsBack, StaysUnlessInFlight, Weighs, begun_of, leaving_at, offer_by, taken, weight_by, weight_of};
 
 use crate::begun::{Bar, Begun, Weight};
@@ -60,10 +60,7 @@ impl<D: Disk + Drop> Engine<D> {
         requires clear { CanTake self.old.failed self.old.progress letters.now }
         // If the engine keeps a machine before, it keeps the machine after that has taken the letters, and the
         // machine's answers leave.
-        ensures keeps { (machine : Machine) → Keeps D.seen D.may_leave self.old.disk self.old.progress self.old.failed machine
-            → Keeps D.seen D.may_leave self.new.disk self.new.progress self.new.failed (take_letters self.old.progress.committed.rules machine letters.now).machine }
-        ensures leaving { (machine : Machine) → Keeps D.seen D.may_leave self.old.disk self.old.progress self.old.failed machine
-            → leaving_at (taken result) ≡ (take_letters self.old.progress.committed.rules machine letters.now).leaving }
+        ensures effect { HasEffect self.old self.new (λ machine. take_letters self.old.progress.committed.rules machine letters.now) (leaving_at (taken result)) }
         ensures weight { Weighs self.old.failed self.old.progress letters.now (weight_of (taken result)) }
         ensures judged { AreJudged (taken result) letters.now self.old.progress self.new.progress }
         ensures stays { StaysUnlessInFlight (taken result) self.old.progress self.new.progress }
@@ -98,10 +95,7 @@ impl<D: Disk + Drop> Engine<D> {
     pub fn begin(&mut self, letters: Letters) -> Begun
         // If the engine keeps a machine before the offer, it keeps the machine after the same offer, and the machine's
         // answers leave.
-        ensures keeps { (machine : Machine) → Keeps D.seen D.may_leave self.old.disk self.old.progress self.old.failed machine
-            → Keeps D.seen D.may_leave self.new.disk self.new.progress self.new.failed (offer_by result self.old.progress.committed.rules machine letters).machine }
-        ensures leaving { (machine : Machine) → Keeps D.seen D.may_leave self.old.disk self.old.progress self.old.failed machine
-            → leaving_at result ≡ (offer_by result self.old.progress.committed.rules machine letters).leaving }
+        ensures effect { HasEffect self.old self.new (λ machine. offer_by result self.old.progress.committed.rules machine letters) (leaving_at result) }
         ensures weight { Weighs self.old.failed self.old.progress letters (weight_of result) }
         ensures back { HandsBack letters result }
         ensures judged { AreJudged result letters self.old.progress self.new.progress }
@@ -125,10 +119,7 @@ impl<D: Disk + Drop> Engine<D> {
         requires none { leaving.old ≡ [] }
         // If the engine keeps a machine before the offer, it keeps the machine after the same offer, and the machine's
         // answers leave.
-        ensures keeps { (machine : Machine) → Keeps D.seen D.may_leave self.old.disk self.old.progress self.old.failed machine
-            → Keeps D.seen D.may_leave self.new.disk self.new.progress self.new.failed (offer_by (begun_of result letters.now leaving.new) self.old.progress.committed.rules machine letters.now).machine }
-        ensures leaving { (machine : Machine) → Keeps D.seen D.may_leave self.old.disk self.old.progress self.old.failed machine
-            → leaving.new ≡ (offer_by (begun_of result letters.now leaving.new) self.old.progress.committed.rules machine letters.now).leaving }
+        ensures effect { HasEffect self.old self.new (λ machine. offer_by (begun_of result letters.now leaving.new) self.old.progress.committed.rules machine letters.now) leaving.new }
         ensures weight { Weighs self.old.failed self.old.progress letters.now result }
         ensures judged { AreJudged (begun_of result letters.now leaving.new) letters.now self.old.progress self.new.progress }
         ensures stays { StaysUnlessInFlight (begun_of result letters.now leaving.new) self.old.progress self.new.progress }

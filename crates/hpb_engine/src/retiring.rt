@@ -1,10 +1,11 @@
 //! Frames that a checkpoint covers become clean again.
-ghost use Rattle.std.specs.Prelude.{◌≡◌, ◌<◌, [], ◌∷◌, false, IfErr, OnErr, OnOk, if◌then◌else◌};
+ghost use Rattle.std.specs.Prelude.{◌≡◌, ◌<◌, [], ◌∷◌, false, IfErr, OnErr, OnOk};
 ghost use Rattle.hpb_disk.specs.Asked.Asked.{syncs};
-ghost use Rattle.hpb_engine.specs.Numbers.{end_of, may_be_open};
+ghost use Rattle.hpb_engine.specs.Numbers.{end_of};
 ghost use Rattle.hpb_engine.specs.Moves.{retired, cleaned};
 ghost use Rattle.hpb_engine.specs.Asking.{retire_asks};
-ghost use Rattle.hpb_engine.specs.Steps.{Called, outcome_of};
+ghost use Rattle.hpb_engine.specs.Steps.{outcome_of};
+ghost use Rattle.hpb_engine.specs.Engines.{Called};
 
 use crate::calls::{sync, tell};
 use crate::engine::Engine;
@@ -22,7 +23,7 @@ impl<D: Disk + Drop> Engine<D> {
         requires works { self.old.failed ≡ false }
         ensures progress { self.new.progress ≡ retired self.old.progress }
         ensures fault { IfErr result (λ fault. fault ≡ Fault.Device) }
-        ensures called { Called D.seen D.may_leave D.moment D.left_since D.failures D.asked self.old.disk self.new.disk self.old.progress self.new.progress self.old.failed self.new.failed (outcome_of result) (λ history. history) (if may_be_open self.old.progress.window self.old.progress.retirement.upto then 1 else 0) (retire_asks self.old.progress.window self.old.progress.retirement.upto) }
+        ensures called { Called self.old self.new (outcome_of result) (λ history. history) (retire_asks self.old.progress.window self.old.progress.retirement.upto) }
     {
         laws_below();
         let count = self.progress.committed.count();
@@ -45,7 +46,7 @@ impl<D: Disk + Drop> Engine<D> {
         ensures ok { OnOk result (self.new.progress ≡ cleaned self.old.progress) }
         ensures err { OnErr result (self.new.progress ≡ self.old.progress) }
         ensures fault { IfErr result (λ fault. fault ≡ Fault.Device) }
-        ensures called { Called D.seen D.may_leave D.moment D.left_since D.failures D.asked self.old.disk self.new.disk self.old.progress self.new.progress self.old.failed self.new.failed (outcome_of result) (λ history. history) 1 (syncs ∷ []) }
+        ensures called { Called self.old self.new (outcome_of result) (λ history. history) (syncs ∷ []) }
     {
         laws_below();
         sync(&mut self.disk, &mut self.failed)?;

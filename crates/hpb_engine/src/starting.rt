@@ -3,7 +3,7 @@ ghost use Rattle.std.specs.Prelude.{◌≡◌, ◌+◌, List, ℕ, None, false, 
 ghost use Rattle.hpb_rules.specs.declared.command.Command.{Command};
 ghost use Rattle.hpb_rules.specs.Machine.{at_rest};
 ghost use Rattle.hpb_recover.specs.Standing.{Stands};
-ghost use Rattle.hpb_engine.specs.Keeping.{Keeps};
+ghost use Rattle.hpb_engine.specs.Engines.{Keeps};
 ghost use Rattle.hpb_codec.specs.declared.state.TheConstants.{STATE_SIZE};
 ghost use Rattle.hpb_engine.specs.Starting.{IsFresh};
 ghost use Rattle.hpb_engine.specs.Starts.{IsStarted};
@@ -64,8 +64,8 @@ impl<D: Disk + Drop> Engine<D> {
     /// 90 `memory` if memory is refused: the opened device is handed back as it was.
     pub fn start(alloc: Global, opened: Opened<D>) -> Result<Engine<D>, Opened<D>>
         // If the device stands for a history, the engine keeps that history, with nothing in flight.
-        ensures keeps { (history : List Command) → Stands history (D.seen opened.disk)
-            → IfOk result (λ engine. Keeps D.seen D.may_leave engine.disk engine.progress engine.failed (at_rest history)) }
+        ensures keeps { (history : List Command) → Stands history (D.device opened.disk).seen
+            → IfOk result (λ engine. Keeps engine (at_rest history)) }
         ensures started { IfOk result (λ engine. IsStarted engine.progress opened.plan) }
         ensures works { IfOk result (λ engine. engine.failed ≡ false) }
         ensures disk { IfOk result (λ engine. engine.disk ≡ opened.disk) }

@@ -1,11 +1,12 @@
 //! Steps of a checkpoint.
-ghost use Rattle.std.specs.Prelude.{◌≡◌, ◌≤◌, Ok, false, IfErr};
+ghost use Rattle.std.specs.Prelude.{◌≡◌, ◌≤◌, Ok, Err, false, IfErr};
 ghost use Rattle.hpb_rules.specs.Machine.{Machine};
-ghost use Rattle.hpb_disk.specs.Images.{LeavesOnly};
-ghost use Rattle.hpb_engine.specs.Keeping.{Keeps, StandsFor};
+ghost use Rattle.hpb_disk.specs.Device.{LeavesOnly};
+ghost use Rattle.hpb_engine.specs.Keeping.{StandsFor};
+ghost use Rattle.hpb_engine.specs.Engines.{Called, Keeps, OnDevice};
 ghost use Rattle.hpb_engine.specs.Asking.{step_asks};
-ghost use Rattle.hpb_engine.specs.Checkpoints.{SameCore, StepLeads, CheckpointLeads, checkpoint_calls};
-ghost use Rattle.hpb_engine.specs.Steps.{Called, OnDevice, outcome_of};
+ghost use Rattle.hpb_engine.specs.Checkpoints.{SameCore, StepLeads, CheckpointLeads};
+ghost use Rattle.hpb_engine.specs.Steps.{outcome_of};
 
 use crate::engine::Engine;
 use crate::laws_below;
@@ -23,7 +24,7 @@ impl<D: Disk + Drop> Engine<D> {
         ensures idle { result ≡ Ok Rest.Idle → self.new.disk ≡ self.old.disk }
         ensures clean { self.old.progress.window.clean_end ≤ self.new.progress.window.clean_end }
         ensures fault { IfErr result (λ fault. fault ≡ Fault.Device) }
-        ensures called { Called D.seen D.may_leave D.moment D.left_since D.failures D.asked self.old.disk self.new.disk self.old.progress self.new.progress self.old.failed self.new.failed (outcome_of result) (λ history. history) (checkpoint_calls self.old.failed self.old.progress) (step_asks self.old.progress) }
+        ensures called { Called self.old self.new (outcome_of result) (λ history. history) (step_asks self.old.progress) }
     {
         laws_below();
         let count = self.progress.committed.count();
@@ -54,7 +55,7 @@ impl<D: Disk + Drop> Engine<D> {
         ensures idle { result ≡ Ok Rest.Idle → self.new.disk ≡ self.old.disk }
         ensures clean { self.old.progress.window.clean_end ≤ self.new.progress.window.clean_end }
         ensures fault { IfErr result (λ fault. fault ≡ Fault.Device) }
-        ensures called { Called D.seen D.may_leave D.moment D.left_since D.failures D.asked self.old.disk self.new.disk self.old.progress self.new.progress self.old.failed self.new.failed (outcome_of result) (λ history. history) (checkpoint_calls self.old.failed self.old.progress) (step_asks self.old.progress) }
+        ensures called { Called self.old self.new (outcome_of result) (λ history. history) (step_asks self.old.progress) }
     {
         laws_below();
         let steps = self.progress.checkpoint.steps;
@@ -88,7 +89,8 @@ impl<D: Disk + Drop> Engine<D> {
         ensures same { SameCore self.old.progress self.new.progress }
         ensures clean { self.old.progress.window.clean_end ≤ self.new.progress.window.clean_end }
         ensures idle { result ≡ Ok Rest.Idle → self.new.disk ≡ self.old.disk }
-        ensures called { Called D.seen D.may_leave D.moment D.left_since D.failures D.asked self.old.disk self.new.disk self.old.progress self.new.progress self.old.failed self.new.failed (outcome_of result) (λ history. history) (checkpoint_calls self.old.failed self.old.progress) (step_asks self.old.progress) }
+        ensures refused { result ≡ Err Fault.Failed → self.new.disk ≡ self.old.disk }
+        ensures called { Called self.old self.new (outcome_of result) (λ history. history) (step_asks self.old.progress) }
     {
         laws_below();
         if self.failed {
@@ -109,21 +111,20 @@ impl<D: Disk + Drop> Engine<D> {
     /// 91 `device`: the call failed. 93 `failed`: an earlier call failed; the device has to be opened again.
     pub fn checkpoint_step(&mut self) -> Result<Rest, Fault>
         // If the engine keeps a machine before the step, it keeps the same machine after it.
-        ensures keeps { (machine : Machine) → Keeps D.seen D.may_leave self.old.disk self.old.progress self.old.failed machine
-            → Keeps D.seen D.may_leave self.new.disk self.new.progress self.new.failed machine }
+        ensures keeps { (machine : Machine) → Keeps self.old machine → Keeps self.new machine }
         // An image that a crash may leave since the call began stands for what a stop of the machine may leave.
-        ensures since { (machine : Machine) → Keeps D.seen D.may_leave self.old.disk self.old.progress self.old.failed machine
-            → LeavesOnly (D.moment self.old.disk) (D.moment self.new.disk) (D.left_since self.old.disk) (D.left_since self.new.disk)
-            (D.may_leave self.new.disk) (StandsFor machine) }
+        ensures since { (machine : Machine) → Keeps self.old machine
+            → LeavesOnly (D.device self.old.disk) (D.device self.new.disk) (StandsFor machine) }
         ensures same { SameCore self.old.progress self.new.progress }
         // It is idle if and only if there is nothing to do, and whole exactly at the last of the steps that were left.
         ensures leads { CheckpointLeads self.old.failed result self.old.progress self.new.progress }
         // No clean frame is given up.
         ensures clean { self.old.progress.window.clean_end ≤ self.new.progress.window.clean_end }
         // It makes at most one call of the device, known beforehand, and reports its failure.
-        ensures device { OnDevice D.moment D.failures D.asked self.old.disk self.new.disk self.old.failed self.new.failed result (checkpoint_calls self.old.failed self.old.progress) (step_asks self.old.progress) }
-        // A step with nothing to do makes no call.
+        ensures device { OnDevice self.old self.new result (step_asks self.old.progress) }
+        // A step with nothing to do makes no call, and none is made after a fault.
         ensures idle { result ≡ Ok Rest.Idle → self.new.disk ≡ self.old.disk }
+        ensures refused { result ≡ Err Fault.Failed → self.new.disk ≡ self.old.disk }
     {
         laws_below();
         self.step()

@@ -2,8 +2,10 @@
 use Rattle.std.proofs.Common.{◌≡◌, ◌≢◌, ◌⊎◌, inl, inr, ⊎_elim, ℕ, ◌+◌, ◌%◌, ◌<◌, ◌≤◌, List, sym, ◌∙◌, subst, arith}
 use Rattle.std.proofs.lemmas.Bool.{cases_eq, cases_lt}
 use Rattle.std.proofs.Math.Nat.{mod-lt, mod-eq_of_lt}
+use Rattle.hpb_disk.proofs.Runs.{leaves_within}
+use Rattle.hpb_disk.specs.Device.{Device, LeavesOnly}
 use Rattle.hpb_disk.specs.Gates.{HasOpenGate, HasClosedGate}
-use Rattle.hpb_disk.specs.Images.{SameBefore, Torn, TornFrom, Within, Elapses}
+use Rattle.hpb_disk.specs.Images.{SameBefore, Torn, TornFrom}
 use Rattle.hpb_disk.specs.Laws.{ElsewhereStays}
 use Rattle.hpb_journal.specs.declared.limits.TheConstants.{JOURNAL_AT}
 use Rattle.hpb_journal.specs.Changes.{ChangesGate, TornGate}
@@ -15,7 +17,7 @@ use Rattle.hpb_slots.specs.Slots as slots
 use Rattle.hpb_format.specs.Stages.{AreClosed, HasHeadOf, OnlyCloses}
 use Rattle.hpb_recover.specs.declared.limits.TheConstants.{HEAD_AT, MAGIC_BYTES}
 use Rattle.hpb_format.specs.declared.place.TheConstants.{HEAD_GATE, FIRST_GATE, SECOND_GATE}
-use Rattle.hpb_format.proofs.Runs.{after_call, after_run, after_none}
+use Rattle.hpb_format.proofs.Runs.{keeps_join, quiet_keeps}
 
 -- An image that is torn behind the magic has the same head.
 pub head_stays : ElsewhereStays → (first : List ℕ) (at count : ℕ) (old new : List ℕ) → HEAD_AT + MAGIC_BYTES ≤ at → Torn at count old new → HasHeadOf first old → HasHeadOf first new
@@ -92,32 +94,17 @@ all_closed layout old new head closed same frames = record {
     slot_stays Second = λ is_open. closed Second (sym (same SECOND_GATE 1 (omega arith)) ∙ is_open)
 
 -- The calls that close gates.
-module _ {D : Type 0} (seen : D → List ℕ) (may_leave : D → List ℕ → Type 0) (moment : D → ℕ) (left_since : D → ℕ → List ℕ → Type 0) where
-  abbrev pub Takes : D → D → (List ℕ → Type 0) → Type 0
-  Takes here next during = Elapses (moment here) (moment next) (left_since here) (left_since next) during
+pub closes_on : {old middle new : Device} → OnlyCloses old middle → OnlyCloses middle new → OnlyCloses old new
+closes_on one two first = keeps_join (one first) (two first)
 
-  abbrev pub Closes : D → D → Type 0
-  Closes here next = OnlyCloses may_leave moment left_since here next
+pub quiet_closes : {old new : Device} → LeavesOnly old new old.may_leave → OnlyCloses old new
+quiet_closes leaves first = quiet_keeps leaves
 
-  pub none_closes : (here : D) → Closes here here
-  none_closes here first within = after_none may_leave moment left_since here (HasHeadOf first) within
+pub gate_closes : {old new : Device} → ElsewhereStays → (at : ℕ) → (at ≡ HEAD_GATE) ⊎ (HEAD_AT + MAGIC_BYTES ≤ at) → HasOpenGate at old.seen → LeavesOnly old new (TornFrom at 1 old.may_leave) → OnlyCloses old new
+gate_closes {old = old} stays at which is_open leaves first within = leaves_within (λ image torn. ⊎_elim
+    (λ head. head_is_torn stays first old.seen torn.0 image (within old.seen old.seen_may_stay) (subst (λ (n : ℕ). HasOpenGate n old.seen) head is_open) (subst (λ (n : ℕ). Torn n 1 torn.0 image) head torn.2) (within torn.0 torn.1))
+    (λ behind. head_stays stays first at 1 torn.0 image behind torn.2 (within torn.0 torn.1))
+    which) leaves
 
-  pub quiet_closes : (here next : D) → Takes here next (may_leave here) → Within (may_leave next) (may_leave here) → Closes here next
-  quiet_closes here next time crash first within = after_call may_leave moment left_since here next (may_leave here) (HasHeadOf first) time crash within
-
-  pub gate_closes : ElsewhereStays → (at : ℕ) → (at ≡ HEAD_GATE) ⊎ (HEAD_AT + MAGIC_BYTES ≤ at) → (here next : D) → may_leave here (seen here) → HasOpenGate at (seen here)
-      → Takes here next (TornFrom at 1 (may_leave here)) → Within (may_leave next) (TornFrom at 1 (may_leave here)) → Closes here next
-  gate_closes stays at which here next may is_open time crash first within =
-      after_call may_leave moment left_since here next (TornFrom at 1 (may_leave here)) (HasHeadOf first) time crash (λ image torn. ⊎_elim
-      (λ head. head_is_torn stays first (seen here) torn.0 image (within (seen here) may) (subst (λ (n : ℕ). HasOpenGate n (seen here)) head is_open) (subst (λ (n : ℕ). Torn n 1 torn.0 image) head torn.2) (within torn.0 torn.1))
-      (λ behind. head_stays stays first at 1 torn.0 image behind torn.2 (within torn.0 torn.1))
-      which)
-
-  pub frame_closes : (layout : Layout) (b : ℕ) (here next : D) → Takes here next (TornGate layout b (may_leave here)) → Within (may_leave next) (TornGate layout b (may_leave here)) → Closes here next
-  frame_closes layout b here next time crash first within =
-      after_call may_leave moment left_since here next (TornGate layout b (may_leave here)) (HasHeadOf first) time crash (λ image torn. head_stays_at_frame layout first b torn.0 image torn.2 (within torn.0 torn.1))
-
-  pub closes_on : (here middle next : D) → Closes here middle → Closes middle next → Closes here next
-  closes_on here middle next one two first within =
-      let left = one first within in
-      after_run may_leave moment left_since here middle next (HasHeadOf first) left (two first left.after)
+pub frame_closes : {old new : Device} (layout : Layout) (b : ℕ) → LeavesOnly old new (TornGate layout b old.may_leave) → OnlyCloses old new
+frame_closes layout b leaves first within = leaves_within (λ image torn. head_stays_at_frame layout first b torn.0 image torn.2 (within torn.0 torn.1)) leaves

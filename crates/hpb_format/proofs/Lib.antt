@@ -5,3 +5,5 @@ pub mod Unheaded
 pub mod Beginning
 pub mod Standing
 pub mod Turns
+pub mod Formats
+pub mod Calls

@@ -3,8 +3,10 @@ use Rattle.std.proofs.Common.{◌≡◌, inl, inr, ℕ, ◌+◌, ◌<◌, ◌≤
 use Rattle.std.proofs.lemmas.Bool.{cases_eq}
 use Rattle.hpb_codec.specs.Laws.{chunk_of}
 use Rattle.hpb_codec.specs.declared.state.TheConstants.{CHUNKS, STATE_SIZE}
-use Rattle.hpb_disk.specs.Gates.{open_byte, HasOpenGate, HasClosedGate}
-use Rattle.hpb_disk.specs.Images.{part, put, Torn, TornFrom, Within, Only, Elapses, LeavesOnly}
+use Rattle.hpb_disk.proofs.Runs.{leaves_within}
+use Rattle.hpb_disk.specs.Device.{Device, IsSettled, LeavesOnly}
+use Rattle.hpb_disk.specs.Gates.{open_byte, HasOpenGate}
+use Rattle.hpb_disk.specs.Images.{part, put, Torn, TornFrom}
 use Rattle.hpb_disk.specs.Laws.{ElsewhereStays, PutIsTorn, OpenOrClosed}
 use Rattle.hpb_journal.specs.Layouts.{Layout, IsLayout}
 use Rattle.hpb_slots.specs.Changes.{ChangesGate, ChangesChunk, TornGate, TornChunk}
@@ -16,7 +18,6 @@ use Rattle.hpb_format.specs.Stages.{AreClosed, ChangesBody, IsClosedOrMade, IsMa
 use Rattle.hpb_codec.specs.declared.head.TheConstants.{HEAD_SIZE}
 use Rattle.hpb_recover.specs.declared.limits.TheConstants.{HEAD_AT}
 use Rattle.hpb_format.specs.declared.place.TheConstants.{HEAD_GATE}
-use Rattle.hpb_format.proofs.Runs.{after_call}
 
 -- The bytes that a read gives after the head was written.
 module _ (layout : Layout) (laws : IsLayout layout) (stays : ElsewhereStays) (head : List ℕ) (old new : List ℕ) (torn : Torn HEAD_AT HEAD_SIZE old new) where
@@ -97,36 +98,24 @@ closed_or_made layout laws stays either head state old new was torn = elim (eith
 ]
 
 -- The calls behind the closed gate of the head.
-module _ {D : Type 0} (may_leave : D → List ℕ → Type 0) (moment : D → ℕ) (left_since : D → ℕ → List ℕ → Type 0) where
-  abbrev pub Takes : D → D → (List ℕ → Type 0) → Type 0
-  Takes here next during = Elapses (moment here) (moment next) (left_since here) (left_since next) during
+behind_gate : {old new : Device} {during : List ℕ → Type 0} → ((image : List ℕ) → during image → (was : List ℕ) × old.may_leave was × (part HEAD_GATE 1 image ≡ part HEAD_GATE 1 was))
+    → LeavesOnly old new during → StaysClosed old new
+behind_gate same leaves within = leaves_within (λ image torn is_open. let from = same image torn in within from.0 from.1 (sym from.2 ∙ is_open)) leaves
 
-  behind_gate : (here next : D) (during : List ℕ → Type 0) → Takes here next during → Within (may_leave next) during
-      → ((image : List ℕ) → during image → (old : List ℕ) × may_leave here old × (part HEAD_GATE 1 image ≡ part HEAD_GATE 1 old)) → StaysClosed may_leave moment left_since here next
-  behind_gate here next during time crash same within =
-      after_call may_leave moment left_since here next during (HasClosedGate HEAD_GATE) time crash (λ image torn is_open. let from = same image torn in within from.0 from.1 (sym from.2 ∙ is_open))
+pub write_stays : {old new : Device} → ElsewhereStays → (at count : ℕ) → 1 ≤ at → LeavesOnly old new (TornFrom at count old.may_leave) → StaysClosed old new
+write_stays stays at count behind = behind_gate (λ image torn. (torn.0, torn.1, stays HEAD_GATE 1 at count torn.0 image torn.2 (inl (omega (arith, behind)))))
 
-  pub write_stays : ElsewhereStays → (at count : ℕ) → 1 ≤ at → (here next : D) → Takes here next (TornFrom at count (may_leave here)) → Within (may_leave next) (TornFrom at count (may_leave here))
-      → StaysClosed may_leave moment left_since here next
-  write_stays stays at count behind here next time crash =
-      behind_gate here next (TornFrom at count (may_leave here)) time crash (λ image torn. (torn.0, torn.1, stays HEAD_GATE 1 at count torn.0 image torn.2 (inl (omega (arith, behind)))))
+pub chunk_stays : {old new : Device} (slot : Slot) (i : ℕ) → LeavesOnly old new (TornChunk slot i old.may_leave) → StaysClosed old new
+chunk_stays slot i = behind_gate (λ image torn. (torn.0, torn.1, torn.2.before HEAD_GATE 1 (omega arith)))
 
-  pub chunk_stays : (slot : Slot) (i : ℕ) (here next : D) → Takes here next (TornChunk slot i (may_leave here)) → Within (may_leave next) (TornChunk slot i (may_leave here)) → StaysClosed may_leave moment left_since here next
-  chunk_stays slot i here next time crash =
-      behind_gate here next (TornChunk slot i (may_leave here)) time crash (λ image torn. (torn.0, torn.1, torn.2.before HEAD_GATE 1 (omega arith)))
-
-  pub slot_stays : (slot : Slot) (here next : D) → Takes here next (TornGate slot (may_leave here)) → Within (may_leave next) (TornGate slot (may_leave here)) → StaysClosed may_leave moment left_since here next
-  slot_stays slot here next time crash =
-      behind_gate here next (TornGate slot (may_leave here)) time crash (λ image torn. (torn.0, torn.1, torn.2.before HEAD_GATE 1 (omega arith)))
+pub slot_stays : {old new : Device} (slot : Slot) → LeavesOnly old new (TornGate slot old.may_leave) → StaysClosed old new
+slot_stays slot = behind_gate (λ image torn. (torn.0, torn.1, torn.2.before HEAD_GATE 1 (omega arith)))
 
 -- The head's gate is opened: nothing else was pending.
-module _ {D : Type 0} (seen : D → List ℕ) (may_leave : D → List ℕ → Type 0) (moment : D → ℕ) (left_since : D → ℕ → List ℕ → Type 0) where
-  pub head_opens : (layout : Layout) → IsLayout layout → ElsewhereStays → OpenOrClosed → (head state : List ℕ) (here next : D) → Only (seen here) (may_leave here) → IsMade layout head state (seen here)
-      → Elapses (moment here) (moment next) (left_since here) (left_since next) (TornFrom HEAD_GATE 1 (may_leave here)) → Within (may_leave next) (TornFrom HEAD_GATE 1 (may_leave here))
-      → LeavesOnly (moment here) (moment next) (left_since here) (left_since next) (may_leave next) (IsClosedOrMade layout head state)
-  head_opens layout laws stays either head state here next settled was time crash =
-      after_call may_leave moment left_since here next (TornFrom HEAD_GATE 1 (may_leave here)) (IsClosedOrMade layout head state) time crash
-      (λ image torn. closed_or_made layout laws stays either head state (seen here) image was (subst (λ (old : List ℕ). Torn HEAD_GATE 1 old image) (settled torn.0 torn.1) torn.2))
+pub head_opens : {old new : Device} (layout : Layout) → IsLayout layout → ElsewhereStays → OpenOrClosed → (head state : List ℕ) → IsSettled old → IsMade layout head state old.seen
+    → LeavesOnly old new (TornFrom HEAD_GATE 1 old.may_leave) → LeavesOnly old new (IsClosedOrMade layout head state)
+head_opens {old = old} layout laws stays either head state settled was = leaves_within
+    (λ image torn. closed_or_made layout laws stays either head state old.seen image was (subst (λ (from : List ℕ). Torn HEAD_GATE 1 from image) (settled torn.0 torn.1) torn.2))
 
 pub head_opened : (layout : Layout) → IsLayout layout → ElsewhereStays → PutIsTorn → (head state old new : List ℕ) → IsMade layout head state old → 1 ≤ length old → new ≡ put HEAD_GATE open_byte old → HasOpenGate HEAD_GATE new
     → IsOpenAndMade layout head state new

@@ -1,15 +1,11 @@
 -- Writes that close gates, and those of chunks.
-use Rattle.std.proofs.Common.{◌≡◌, inl, inr, ℕ, zero, suc, ◌+◌, ◌-◌, ◌<◌, ◌≤◌, List, [], ◌∷◌, ◌++◌, refl, sym, ◌∙◌, ap, subst, length-append, arith}
+use Rattle.std.proofs.Common.{◌≡◌, ℕ, zero, suc, ◌+◌, ◌-◌, ◌<◌, ◌≤◌, List, [], ◌∷◌, ◌++◌, sym, ◌∙◌, ap, length-append, arith}
 use Rattle.std.specs.List.{AllByRecursion}
-use Rattle.std.specs.Prelude.{Result, Ok, Err}
 use Rattle.hpb_codec.specs.declared.layout.JournalShape.{JournalShape}
-use Rattle.hpb_disk.specs.Asked.{Asked, Asks}
-use Rattle.hpb_disk.specs.Asked.Asked.{writes, fails}
-use Rattle.hpb_disk.proofs.Turns.{Breaks}
-use Rattle.hpb_disk.specs.Gates.{closed_byte}
+use Rattle.hpb_disk.specs.Asked.{Asked}
 use Rattle.hpb_slots.specs.Writes.{writes_chunk}
 use Rattle.hpb_slots.specs.declared.slot.Slot.TheVariants.{First}
-use Rattle.hpb_format.specs.Asking.{AreClosings, IsClosing, MayClose, writes_chunks}
+use Rattle.hpb_format.specs.Asking.{AreClosings, IsClosing, writes_chunks}
 
 all_append : (journal : JournalShape) (one two : List Asked) → AllByRecursion (IsClosing journal) one → AllByRecursion (IsClosing journal) two → AllByRecursion (IsClosing journal) (one ++ two)
 all_append journal [] two first second = second
@@ -38,27 +34,11 @@ first_chunks (suc more) count body =
     let chunk = writes_chunk First (more + count) body in
     (chunk ∷ rest.0, ap (λ (n : ℕ). writes_chunks n body) next ∙ ap (λ (l : List Asked). chunk ∷ l) rest.1)
 
--- Writes that may close a gate are closing writes.
-pub may_close : (journal : JournalShape) (at : ℕ) (calls : List Asked) → IsClosing journal (writes at closed_byte) → MayClose at calls → AreClosings journal 1 calls
-may_close journal at calls is (inl none) = subst (AreClosings journal 1) (sym none) (no_closings journal 1)
-may_close journal at calls is (inr one) = subst (AreClosings journal 1) (sym one) (one_closing journal (writes at closed_byte) is)
-
 pub widen : (journal : JournalShape) (few most : ℕ) (calls : List Asked) → few ≤ most → AreClosings journal few calls → AreClosings journal most calls
 widen journal few most calls le are = record { each = are.each; few = omega (arith, le, are.few) }
 
--- The write of a chunk failed: those before it are the first ones of all.
-pub chunk_breaks : (i count : ℕ) (body : List ℕ) (old middle new : List Asked) → i < count → middle ≡ writes_chunks i body ++ old → new ≡ fails ∷ writes_chunk First i body ∷ middle
-    → Breaks (writes_chunks count body) old new
-chunk_breaks i count body old middle new below first second =
+-- All chunks end with those up to one of them.
+pub chunks_end : (i count : ℕ) (body : List ℕ) → i < count → (later : List Asked) × (writes_chunks count body ≡ later ++ writes_chunks (suc i) body)
+chunks_end i count body below =
     let split : (count - suc i) + suc i ≡ count = omega (arith, below) in
-    let rest = first_chunks (count - suc i) (suc i) body in (
-      rest.0,
-      writes_chunks (suc i) body,
-      ap (λ (n : ℕ). writes_chunks n body) (sym split) ∙ rest.1,
-      second ∙ ap (λ (l : List Asked). fails ∷ writes_chunk First i body ∷ l) first,
-    )
-
--- A call that wasn't done failed.
-pub did_fail : {T E : Type 0} (result : Result T E) (call old new : List Asked) → ((value : T) → result ≡ Ok value → ⊥) → Asks result call old new → new ≡ fails ∷ call ++ old
-did_fail (Ok value) call old new undone asks = absurd (undone value refl)
-did_fail (Err error) call old new undone asks = asks
+    let rest = first_chunks (count - suc i) (suc i) body in (rest.0, ap (λ (n : ℕ). writes_chunks n body) (sym split) ∙ rest.1)

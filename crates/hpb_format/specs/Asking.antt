@@ -4,8 +4,9 @@ use Rattle.std.specs.List.{AllByRecursion}
 use Rattle.hpb_rules.specs.Tree.{Rules}
 use Rattle.hpb_codec.specs.declared.layout.JournalShape.{JournalShape}
 use Rattle.hpb_codec.specs.declared.state.TheConstants.{CHUNKS}
-use Rattle.hpb_disk.specs.Asked.{Asked, Asks}
+use Rattle.hpb_disk.specs.Asked.{Asked, AsksInTurn}
 use Rattle.hpb_disk.specs.Asked.Asked.{writes, syncs, fails}
+use Rattle.hpb_disk.specs.Device.{Device, CountsFailure}
 use Rattle.hpb_disk.specs.Gates.{open_byte, closed_byte}
 use Rattle.hpb_journal.specs.Places.{closes_frame}
 use Rattle.hpb_slots.specs.Writes.{closes_slot, opens_slot, writes_chunk}
@@ -16,6 +17,7 @@ use Rattle.hpb_format.specs.Beginnings.{IsFirstHead, IsFirstState}
 use Rattle.hpb_format.specs.declared.fault.FormatCause.{FormatCause}
 use Rattle.hpb_format.specs.declared.fault.FormatCause.TheVariants as causes
 use Rattle.hpb_format.specs.declared.place.TheConstants.{HEAD_GATE}
+use Rattle.hpb_format.specs.Stages.{OnlyCloses, StaysClosed}
 
 -- A write that closes a gate: the head's, a slot's, or that of a frame.
 abbrev pub IsClosing : JournalShape → Asked → Type 0
@@ -26,13 +28,19 @@ pub record AreClosings (journal : JournalShape) (most : ℕ) (calls : List Asked
   pub each : AllByRecursion (IsClosing journal) calls
   pub few : length calls ≤ most
 
--- No call, or the write that closes the gate at this offset.
-abbrev pub MayClose : ℕ → List Asked → Type 0
-MayClose at calls = (calls ≡ []) ⊎ (calls ≡ writes at closed_byte ∷ [])
+-- The device was asked for these writes and syncs in turn. It is as long as before, and a failure is reported.
+pub record MakesCalls {T E : Type 0} (result : Result T E) (calls : List Asked) (old new : Device) : Type 0 where
+  pub size : length new.seen ≡ length old.seen
+  pub cause : CountsFailure result old new
+  pub asks : AsksInTurn result calls old.asked new.asked
 
--- At most `most` gates were closed.
-abbrev pub Closes : {T E : Type 0} → JournalShape → ℕ → Result T E → (old new : List Asked) → Type 0
-Closes journal most result old new = (calls : List Asked) × AreClosings journal most calls × Asks result calls old new
+-- At most `most` gates are closed.
+abbrev pub Closes : {T E : Type 0} → JournalShape → ℕ → Result T E → (old new : Device) → Type 0
+Closes journal most result old new = (calls : List Asked) × AreClosings journal most calls × MakesCalls result calls old new × OnlyCloses old new
+
+-- These calls are made while the gate of the head stays closed.
+abbrev pub Writes : {T E : Type 0} → Result T E → List Asked → (old new : Device) → Type 0
+Writes result calls old new = MakesCalls result calls old new × StaysClosed old new
 
 -- The writes of the first chunks of the first slot's body.
 abbrev pub writes_chunks : ℕ → List ℕ → List Asked
@@ -61,9 +69,9 @@ pub record IsFormatting (rules : Rules) (journal : JournalShape) (calls : List A
 
 -- The device was asked for all of that, or for the sync alone if it is formatted already. It was asked for nothing
 -- before the length and memory are known, and for nothing after a call that failed.
-abbrev pub AsksToFormat : {T : Type 0} → Rules → JournalShape → Result T FormatCause → (old new : List Asked) → Type 0
-AsksToFormat rules journal (Ok _) old new = (calls : List Asked) × IsFormatting rules journal calls × (new ≡ calls ++ old)
+abbrev pub AsksToFormat : {T : Type 0} → Rules → JournalShape → Result T FormatCause → (old new : Device) → Type 0
+AsksToFormat rules journal (Ok _) old new = (calls : List Asked) × IsFormatting rules journal calls × (new.asked ≡ calls ++ old.asked)
 AsksToFormat rules journal (Err causes.Device) old new =
-    (calls later done : List Asked) × IsFormatting rules journal calls × (calls ≡ later ++ done) × (new ≡ fails ∷ done ++ old)
-AsksToFormat rules journal (Err causes.Formatted) old new = new ≡ syncs ∷ old
-AsksToFormat rules journal (Err _) old new = new ≡ old
+    (calls later done : List Asked) × IsFormatting rules journal calls × (calls ≡ later ++ done) × (new.asked ≡ fails ∷ done ++ old.asked)
+AsksToFormat rules journal (Err causes.Formatted) old new = new.asked ≡ syncs ∷ old.asked
+AsksToFormat rules journal (Err _) old new = new.asked ≡ old.asked

@@ -1,7 +1,7 @@
 -- The results of formatting a device, and the causes of a refusal.
 use Rattle.std.specs.Prelude.{◌≡◌, ◌⊎◌, ◌↔◌, ℕ, ◌<◌, List, [], length, Result, Ok, Err, OnOk}
-use Rattle.hpb_disk.specs.Asked.{Asked}
-use Rattle.hpb_disk.specs.Images.{part, LeavesOnly, Only, Within}
+use Rattle.hpb_disk.specs.Device.{Device, IsSettled, LeavesOnly}
+use Rattle.hpb_disk.specs.Images.{part, Within}
 use Rattle.hpb_rules.specs.declared.refusal.Refusal.{Refusal}
 use Rattle.hpb_rules.specs.declared.refusal.Refusal.TheVariants as refusals
 use Rattle.hpb_rules.specs.Tree.{Rules}
@@ -41,8 +41,7 @@ pub record HasLength (journal : JournalShape) (image : List ℕ) : Type 0 where
   pub allowed : IsShape journal
   pub size : length image ≡ (shaped journal).size
 
--- The image stands for no command, under this definition and with a journal of this shape, and its head names the
--- second format of states.
+-- The image stands for no command, under this definition and with a journal of this shape, and its head names the second format of states.
 pub record IsNew (rules : Rules) (journal : JournalShape) (image : List ℕ) : Type 0 where
   pub laid : IsLaidOut (record { definition = rules; journal = journal }) image
   pub format : SpellsHeadIn Two (part HEAD_AT HEAD_SIZE image) (record { definition = rules; journal = journal })
@@ -51,10 +50,6 @@ pub record IsNew (rules : Rules) (journal : JournalShape) (image : List ℕ) : T
 -- The image isn't that of a formatted device, or it is new.
 abbrev pub IsBlank : Rules → JournalShape → List ℕ → Type 0
 IsBlank rules journal image = (IsFormatted image → ⊥) ⊎ IsNew rules journal image
-
--- The image is one that a crash could leave before, or it is blank.
-abbrev pub WasOrIsBlank : {D : Type 0} → (D → List ℕ → Type 0) → D → Rules → JournalShape → List ℕ → Type 0
-WasOrIsBlank may_leave before rules journal image = may_leave before image ⊎ IsBlank rules journal image
 
 -- A call failed for this cause.
 abbrev pub FailsBy : {T : Type 0} → Result T FormatCause → FormatCause → Type 0
@@ -77,33 +72,31 @@ answer_of (Ok disk) = Ok tt
 answer_of (Err fault) = Err fault.cause
 
 -- The number of failures rises if the call fails because of the device, and otherwise stays the same.
-abbrev pub CountsCause : {T : Type 0} → Result T FormatCause → (old new : ℕ) → Type 0
-CountsCause (Ok _) old new = new ≡ old
-CountsCause (Err causes.Device) old new = old < new
-CountsCause (Err _) old new = new ≡ old
+abbrev pub CountsCause : {T : Type 0} → Result T FormatCause → (old new : Device) → Type 0
+CountsCause (Ok _) old new = new.failures ≡ old.failures
+CountsCause (Err causes.Device) old new = old.failures < new.failures
+CountsCause (Err _) old new = new.failures ≡ old.failures
 
 -- The effect of a call to format a device for a journal of this shape, on the device and on its result.
-pub record FormatsAs {D : Type 0} (seen : D → List ℕ) (may_leave : D → List ℕ → Type 0) (moment : D → ℕ) (left_since : D → ℕ → List ℕ → Type 0) (failures : D → ℕ) (asked : D → List Asked)
-    (rules : Rules) (journal : JournalShape) (old new : D) (answer : Result (Unit {0}) FormatCause) : Type 0 where
+pub record FormatsAs {D : Type 0} (device : D → Device) (rules : Rules) (journal : JournalShape) (old new : D) (answer : Result (Unit {0}) FormatCause) : Type 0 where
   -- After `Ok` each crash leaves an image that stands for no command, under this definition and with such a journal.
-  pub stands : OnOk answer (Within (may_leave new) (IsNew rules journal))
+  pub stands : OnOk answer (Within (device new).may_leave (IsNew rules journal))
   -- 43 is reported exactly if no journal may have this shape, or the device doesn't have the length for it.
-  pub length : FailsBy answer causes.Length ↔ (HasLength journal (seen old) → ⊥)
+  pub length : FailsBy answer causes.Length ↔ (HasLength journal (device old).seen → ⊥)
   -- 41 is reported only if the device is formatted. For such a device nothing else is reported, unless memory is
   -- refused or the device fails.
-  pub formatted : FailsBy answer causes.Formatted → IsFormatted (seen old)
-  pub refused : HasLength journal (seen old) → IsFormatted (seen old) → FailsAtMostBy answer causes.Formatted
+  pub formatted : FailsBy answer causes.Formatted → IsFormatted (device old).seen
+  pub refused : HasLength journal (device old).seen → IsFormatted (device old).seen → FailsAtMostBy answer causes.Formatted
   -- Before 43 and 90 no call of the device is made.
   pub untouched : FailsBy answer causes.Length ⊎ FailsBy answer causes.Memory → new ≡ old
   -- A formatted device stays as it was, at any moment.
-  pub same : IsFormatted (seen old) → seen new ≡ seen old
-  pub kept : IsFormatted (seen old) → LeavesOnly (moment old) (moment new) (left_since old) (left_since new) (may_leave new) (may_leave old)
+  pub same : IsFormatted (device old).seen → (device new).seen ≡ (device old).seen
+  pub kept : IsFormatted (device old).seen → LeavesOnly (device old) (device new) (device old).may_leave
   -- On any other device a crash at any moment leaves an image from before, or one that isn't formatted or is new,
-  pub any_moment : LeavesOnly (moment old) (moment new) (left_since old) (left_since new) (may_leave new) (WasOrIsBlank may_leave old rules journal)
+  pub any_moment : LeavesOnly (device old) (device new) (λ image. (device old).may_leave image ⊎ IsBlank rules journal image)
   -- and if no write was pending, only one that isn't formatted or is new.
-  pub blank : Only (seen old) (may_leave old) → (IsFormatted (seen old) → ⊥)
-      → LeavesOnly (moment old) (moment new) (left_since old) (left_since new) (may_leave new) (IsBlank rules journal)
+  pub blank : IsSettled (device old) → (IsFormatted (device old).seen → ⊥) → LeavesOnly (device old) (device new) (IsBlank rules journal)
   -- 91 is reported exactly if a call of the device failed.
-  pub cause : CountsCause answer (failures old) (failures new)
+  pub cause : CountsCause answer (device old) (device new)
   -- The device was asked for this, in this order, and nothing else.
-  pub asks : AsksToFormat rules journal answer (asked old) (asked new)
+  pub asks : AsksToFormat rules journal answer (device old) (device new)

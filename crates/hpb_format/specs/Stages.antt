@@ -1,7 +1,8 @@
 -- The images of a device while it is formatted.
 use Rattle.std.specs.Prelude.{◌≡◌, ◌⊎◌, ℕ, List, length}
+use Rattle.hpb_disk.specs.Device.{Device, LeavesOnly}
 use Rattle.hpb_disk.specs.Gates.{HasOpenGate, HasClosedGate}
-use Rattle.hpb_disk.specs.Images.{part, SameBefore, SameFrom, Within, LeavesOnly}
+use Rattle.hpb_disk.specs.Images.{part, SameBefore, SameFrom, Within}
 use Rattle.hpb_journal.specs.Layouts.{Layout}
 use Rattle.hpb_journal.specs.Frames.{IsClosed}
 use Rattle.hpb_slots.specs.declared.limits.TheConstants.{SLOTS_AT, SLOTS_END}
@@ -25,18 +26,17 @@ pub record HasHeadOf (first image : List ℕ) : Type 0 where
   pub magic : part HEAD_AT MAGIC_BYTES image ≡ part HEAD_AT MAGIC_BYTES first
   pub gate : HasClosedGate HEAD_GATE first → HasClosedGate HEAD_GATE image
 
--- If a crash could leave only images of this set, then from then on, up to the next device, it leaves only such images.
-abbrev pub Keeps : {D : Type 0} → (D → List ℕ → Type 0) → (D → ℕ) → (D → ℕ → List ℕ → Type 0) → (List ℕ → Type 0) → D → D → Type 0
-Keeps may_leave moment left_since images here next =
-    Within (may_leave here) images → LeavesOnly (moment here) (moment next) (left_since here) (left_since next) (may_leave next) images
+-- If a crash could leave only images of this set, it leaves only such images within these calls and after them.
+abbrev pub Keeps : (List ℕ → Type 0) → (old new : Device) → Type 0
+Keeps images old new = Within old.may_leave images → LeavesOnly old new images
 
 -- At most, gates are closed.
-abbrev pub OnlyCloses : {D : Type 0} → (D → List ℕ → Type 0) → (D → ℕ) → (D → ℕ → List ℕ → Type 0) → D → D → Type 0
-OnlyCloses may_leave moment left_since here next = (first : List ℕ) → Keeps may_leave moment left_since (HasHeadOf first) here next
+abbrev pub OnlyCloses : (old new : Device) → Type 0
+OnlyCloses old new = (first : List ℕ) → Keeps (HasHeadOf first) old new
 
 -- The gate of the head stays closed.
-abbrev pub StaysClosed : {D : Type 0} → (D → List ℕ → Type 0) → (D → ℕ) → (D → ℕ → List ℕ → Type 0) → D → D → Type 0
-StaysClosed may_leave moment left_since = Keeps may_leave moment left_since (HasClosedGate HEAD_GATE)
+abbrev pub StaysClosed : (old new : Device) → Type 0
+StaysClosed = Keeps (HasClosedGate HEAD_GATE)
 
 -- The images differ at most in the body of the first slot.
 pub record ChangesBody (old new : List ℕ) : Type 0 where

@@ -1,16 +1,17 @@
 //! Closes the gates of a device that isn't formatted, before anything is written behind them.
 ghost use Rattle.std.specs.Prelude.{◌≡◌, ◌⊎◌, ◌+◌, ◌<◌, ◌≤◌, ℕ, List, ◌∷◌, length, OnOk};
 ghost use Rattle.hpb_codec.specs.declared.layout.JournalShape.{JournalShape};
-ghost use Rattle.hpb_disk.specs.Asked.{Asked, Asks, AsksInTurn};
-ghost use Rattle.hpb_disk.specs.Asked.Asked.{syncs};
-ghost use Rattle.hpb_disk.specs.Gates.{HasClosedGate};
-ghost use Rattle.hpb_disk.specs.Images.{Only, SameBefore, Torn, CountsFailure};
+ghost use Rattle.hpb_disk.specs.Asked.{Asked};
+ghost use Rattle.hpb_disk.specs.Asked.Asked.{syncs, writes};
+ghost use Rattle.hpb_disk.specs.Device.{IsSettled};
+ghost use Rattle.hpb_disk.specs.Gates.{HasClosedGate, closed_byte};
+ghost use Rattle.hpb_disk.specs.Images.{SameBefore, Torn};
 ghost use Rattle.hpb_journal.specs.Changes.{ChangesGate};
 ghost use Rattle.hpb_journal.specs.Frames.{IsClosed};
 ghost use Rattle.hpb_journal.specs.declared.limits.TheConstants.{JOURNAL_AT};
 ghost use Rattle.hpb_slots.specs.declared.slot.Slot.{Slot};
 ghost use Rattle.hpb_slots.specs.Slots.{IsClosed as IsClosedSlot};
-ghost use Rattle.hpb_format.specs.Asking.{AreClosings, Closes, MayClose};
+ghost use Rattle.hpb_format.specs.Asking.{AreClosings, Closes, IsClosing, MakesCalls};
 ghost use Rattle.hpb_format.specs.Stages.{AreClosed, OnlyCloses};
 ghost use Rattle.hpb_recover.specs.declared.limits.TheConstants.{HEAD_AT, MAGIC_BYTES};
 ghost use Rattle.hpb_format.specs.declared.place.TheConstants.{HEAD_GATE};
@@ -22,14 +23,11 @@ use hpb_tree::Definition;
 
 /// Closes a gate, if it reads open.
 fn close_if_open<D: Disk>(disk: &mut D, at: usize) -> Result<(), DiskFailed>
-    requires room { at < length (D.seen disk.old) }
+    requires room { at < length (D.device disk.old).seen }
     requires apart { (at ≡ HEAD_GATE) ⊎ (HEAD_AT + MAGIC_BYTES ≤ at) }
-    ensures closed { OnOk result (HasClosedGate at (D.seen disk.new)) }
-    ensures rest { OnOk result (Torn at 1 (D.seen disk.old) (D.seen disk.new)) }
-    ensures size { length (D.seen disk.new) ≡ length (D.seen disk.old) }
-    ensures any_moment { OnlyCloses D.may_leave D.moment D.left_since disk.old disk.new }
-    ensures cause { CountsFailure result (D.failures disk.old) (D.failures disk.new) }
-    ensures asked { (calls : List Asked) × MayClose at calls × Asks result calls (D.asked disk.old) (D.asked disk.new) }
+    ensures closed { OnOk result (HasClosedGate at (D.device disk.new).seen) }
+    ensures rest { OnOk result (Torn at 1 (D.device disk.old).seen (D.device disk.new).seen) }
+    ensures closes { (journal : JournalShape) → IsClosing journal (writes at closed_byte) → Closes journal 1 result (D.device disk.old) (D.device disk.new) }
 {
     elsewhere_stays();
     put_is_torn();
@@ -46,13 +44,10 @@ fn close_frame_if_open<D: Disk, F: Frames>(
     index: u64,
     definition: &Definition,
 ) -> Result<(), DiskFailed>
-    requires room { (F.layout frames.now).size ≤ length (D.seen disk.old) }
-    ensures closed { OnOk result (IsClosed (F.layout frames.now) index (D.seen disk.new)) }
-    ensures rest { OnOk result (ChangesGate (F.layout frames.now) index (D.seen disk.old) (D.seen disk.new)) }
-    ensures size { length (D.seen disk.new) ≡ length (D.seen disk.old) }
-    ensures any_moment { OnlyCloses D.may_leave D.moment D.left_since disk.old disk.new }
-    ensures cause { CountsFailure result (D.failures disk.old) (D.failures disk.new) }
-    ensures asked { Closes (F.shape frames.now) 1 result (D.asked disk.old) (D.asked disk.new) }
+    requires room { (F.layout frames.now).size ≤ length (D.device disk.old).seen }
+    ensures closed { OnOk result (IsClosed (F.layout frames.now) index (D.device disk.new).seen) }
+    ensures rest { OnOk result (ChangesGate (F.layout frames.now) index (D.device disk.old).seen (D.device disk.new).seen) }
+    ensures closes { Closes (F.shape frames.now) 1 result (D.device disk.old) (D.device disk.new) }
 {
     if matches!(frames.read_frame(disk, index, definition)?, Frame::Closed) {
         return Ok(());
@@ -66,13 +61,10 @@ fn close_frames<D: Disk, F: Frames>(
     frames: &F,
     definition: &Definition,
 ) -> Result<(), DiskFailed>
-    requires room { (F.layout frames.now).size ≤ length (D.seen disk.old) }
-    ensures closed { OnOk result ((b : ℕ) → IsClosed (F.layout frames.now) b (D.seen disk.new)) }
-    ensures before { OnOk result (SameBefore JOURNAL_AT (D.seen disk.old) (D.seen disk.new)) }
-    ensures size { length (D.seen disk.new) ≡ length (D.seen disk.old) }
-    ensures any_moment { OnlyCloses D.may_leave D.moment D.left_since disk.old disk.new }
-    ensures cause { CountsFailure result (D.failures disk.old) (D.failures disk.new) }
-    ensures asked { Closes (F.shape frames.now) (F.layout frames.now).count result (D.asked disk.old) (D.asked disk.new) }
+    requires room { (F.layout frames.now).size ≤ length (D.device disk.old).seen }
+    ensures closed { OnOk result ((b : ℕ) → IsClosed (F.layout frames.now) b (D.device disk.new).seen) }
+    ensures before { OnOk result (SameBefore JOURNAL_AT (D.device disk.old).seen (D.device disk.new).seen) }
+    ensures closes { Closes (F.shape frames.now) (F.layout frames.now).count result (D.device disk.old) (D.device disk.new) }
 {
     frames.laws();
     for index in 0..u64::from(frames.count()) {
@@ -83,13 +75,10 @@ fn close_frames<D: Disk, F: Frames>(
 
 /// Closes the gates before the journal that read open: the head's, and those of the slots.
 fn close_head_and_slots<D: Disk>(disk: &mut D) -> Result<(), DiskFailed>
-    requires room { JOURNAL_AT ≤ length (D.seen disk.old) }
-    ensures head { OnOk result (HasClosedGate HEAD_GATE (D.seen disk.new)) }
-    ensures slots { OnOk result ((slot : Slot) → IsClosedSlot slot (D.seen disk.new)) }
-    ensures size { length (D.seen disk.new) ≡ length (D.seen disk.old) }
-    ensures any_moment { OnlyCloses D.may_leave D.moment D.left_since disk.old disk.new }
-    ensures cause { CountsFailure result (D.failures disk.old) (D.failures disk.new) }
-    ensures asked { (journal : JournalShape) → Closes journal 3 result (D.asked disk.old) (D.asked disk.new) }
+    requires room { JOURNAL_AT ≤ length (D.device disk.old).seen }
+    ensures head { OnOk result (HasClosedGate HEAD_GATE (D.device disk.new).seen) }
+    ensures slots { OnOk result ((slot : Slot) → IsClosedSlot slot (D.device disk.new).seen) }
+    ensures closes { (journal : JournalShape) → Closes journal 3 result (D.device disk.old) (D.device disk.new) }
 {
     elsewhere_stays();
     close_if_open(disk, HEAD_GATE)?;
@@ -103,13 +92,11 @@ pub(crate) fn close_all<D: Disk, F: Frames>(
     frames: &F,
     definition: &Definition,
 ) -> Result<(), DiskFailed>
-    requires room { (F.layout frames.now).size ≤ length (D.seen disk.old) }
-    ensures closed { OnOk result (AreClosed (F.layout frames.now) (D.seen disk.new)) }
-    ensures settled { OnOk result (Only (D.seen disk.new) (D.may_leave disk.new)) }
-    ensures size { length (D.seen disk.new) ≡ length (D.seen disk.old) }
-    ensures any_moment { OnlyCloses D.may_leave D.moment D.left_since disk.old disk.new }
-    ensures cause { CountsFailure result (D.failures disk.old) (D.failures disk.new) }
-    ensures asked { (calls : List Asked) × AreClosings (F.shape frames.now) (3 + (F.layout frames.now).count) calls × AsksInTurn result (syncs ∷ calls) (D.asked disk.old) (D.asked disk.new) }
+    requires room { (F.layout frames.now).size ≤ length (D.device disk.old).seen }
+    ensures closed { OnOk result (AreClosed (F.layout frames.now) (D.device disk.new).seen) }
+    ensures settled { OnOk result (IsSettled (D.device disk.new)) }
+    ensures any_moment { OnlyCloses (D.device disk.old) (D.device disk.new) }
+    ensures calls { (calls : List Asked) × AreClosings (F.shape frames.now) (3 + (F.layout frames.now).count) calls × MakesCalls result (syncs ∷ calls) (D.device disk.old) (D.device disk.new) }
 {
     frames.laws();
     close_head_and_slots(disk)?;

@@ -1,18 +1,17 @@
 //! Formatting a device.
-ghost use Rattle.std.specs.Prelude.{◌≡◌, ◌⊎◌, ◌+◌, ◌≤◌, ◌↔◌, List, [], ◌∷◌, ℕ, length, IfOk, IfSome, IsNone, IsTrue, OnOk};
+ghost use Rattle.std.specs.Prelude.{◌≡◌, ◌+◌, ◌≤◌, ◌↔◌, List, [], ◌∷◌, ℕ, length, IfOk, IfSome, IsNone, IsTrue, OnOk};
 ghost use Rattle.hpb_codec.specs.declared.state.TheConstants.{STATE_SIZE};
-ghost use Rattle.hpb_disk.specs.Asked.{Asks};
 ghost use Rattle.hpb_disk.specs.Asked.Asked.{syncs};
-ghost use Rattle.hpb_disk.specs.Images.{Only, Within, CountsFailure, LeavesOnly};
-ghost use Rattle.hpb_recover.specs.Heads.{IsFormatted, IsHeaded};
+ghost use Rattle.hpb_disk.specs.Device.{IsSettled, IsUnchanged, LeavesOnly, MakesReads};
+ghost use Rattle.hpb_recover.specs.Heads.{IsHeaded};
 ghost use Rattle.hpb_codec.specs.declared.head.TheConstants.{HEAD_SIZE};
 ghost use Rattle.hpb_recover.specs.declared.limits.TheConstants.{HEAD_AT, MAGIC_BYTES};
 ghost use Rattle.hpb_format.specs.Beginnings.{IsFirstHead, IsFirstState};
 ghost use Rattle.hpb_codec.specs.declared.layout.JournalShape.{JournalShape};
 ghost use Rattle.hpb_journal.specs.Shapes.{shape_of};
-ghost use Rattle.hpb_format.specs.Asking.{AsksToFormat};
-ghost use Rattle.hpb_format.specs.Outcomes.{answer_of, given, paged, CountsCause, FailsAtMostBy, FailsBy, FormatsAs, HasLength, IsNew, Names, WasOrIsBlank};
-ghost use Rattle.hpb_format.specs.declared.fault.FormatCause.TheVariants.{Formatted, Length, Memory};
+ghost use Rattle.hpb_format.specs.Asking.{MakesCalls};
+ghost use Rattle.hpb_format.specs.Outcomes.{answer_of, given, paged, FailsBy, FormatsAs, HasLength, Names};
+ghost use Rattle.hpb_format.specs.declared.fault.FormatCause.TheVariants.{Length};
 
 use crate::fault::{FormatCause, FormatFault};
 use crate::new_device::NewDevice;
@@ -28,13 +27,10 @@ use std::alloc::Global;
 
 /// Whether the head's gate reads open, with the magic behind it.
 fn is_headed<D: Disk>(disk: &mut D) -> Result<bool, DiskFailed>
-    requires room { HEAD_AT + MAGIC_BYTES ≤ length (D.seen disk.old) }
-    ensures headed { IfOk result (λ is. IsTrue is ↔ IsHeaded (D.seen disk.old)) }
-    ensures seen { D.seen disk.new ≡ D.seen disk.old }
-    ensures any_moment { LeavesOnly (D.moment disk.old) (D.moment disk.new) (D.left_since disk.old) (D.left_since disk.new) (D.may_leave disk.new)
-        (D.may_leave disk.old) }
-    ensures cause { CountsFailure result (D.failures disk.old) (D.failures disk.new) }
-    ensures asked { Asks result [] (D.asked disk.old) (D.asked disk.new) }
+    requires room { HEAD_AT + MAGIC_BYTES ≤ length (D.device disk.old).seen }
+    ensures headed { IfOk result (λ is. IsTrue is ↔ IsHeaded (D.device disk.old).seen) }
+    ensures unchanged { IsUnchanged (D.device disk.old) (D.device disk.new) }
+    ensures reads { MakesReads result 2 (D.device disk.old) (D.device disk.new) }
 {
     if !gate_is_open(disk, HEAD_GATE)? {
         return Ok(false);
@@ -62,14 +58,12 @@ fn frames_of(journal: JournalShape, len: usize) -> Option<AnyFrames>
 
 /// Syncs, and reads whether the device is formatted.
 fn settle_and_read<D: Disk>(disk: &mut D) -> Result<bool, DiskFailed>
-    requires room { HEAD_AT + MAGIC_BYTES ≤ length (D.seen disk.old) }
-    ensures headed { IfOk result (λ is. IsTrue is ↔ IsHeaded (D.seen disk.old)) }
-    ensures seen { D.seen disk.new ≡ D.seen disk.old }
-    ensures settled { OnOk result (Only (D.seen disk.new) (D.may_leave disk.new)) }
-    ensures any_moment { LeavesOnly (D.moment disk.old) (D.moment disk.new) (D.left_since disk.old) (D.left_since disk.new) (D.may_leave disk.new)
-        (D.may_leave disk.old) }
-    ensures cause { CountsFailure result (D.failures disk.old) (D.failures disk.new) }
-    ensures asked { Asks result (syncs ∷ []) (D.asked disk.old) (D.asked disk.new) }
+    requires room { HEAD_AT + MAGIC_BYTES ≤ length (D.device disk.old).seen }
+    ensures headed { IfOk result (λ is. IsTrue is ↔ IsHeaded (D.device disk.old).seen) }
+    ensures seen { (D.device disk.new).seen ≡ (D.device disk.old).seen }
+    ensures settled { OnOk result (IsSettled (D.device disk.new)) }
+    ensures any_moment { LeavesOnly (D.device disk.old) (D.device disk.new) (D.device disk.old).may_leave }
+    ensures calls { MakesCalls result (syncs ∷ []) (D.device disk.old) (D.device disk.new) }
 {
     disk.sync()?;
     is_headed(disk)
@@ -82,23 +76,12 @@ fn format_fitting<D: Disk>(
     definition: &Definition,
     new: &NewDevice,
 ) -> Result<(), FormatCause>
-    requires length { HasLength (shape_of frames.now) (D.seen disk.old) }
+    requires length { HasLength (shape_of frames.now) (D.device disk.old).seen }
     requires head { IsFirstHead definition.now (shape_of frames.now) new.now.head.items }
     requires head_size { length new.now.head.items ≡ HEAD_SIZE }
     requires state { IsFirstState definition.now new.now.state.items }
     requires state_size { length new.now.state.items ≡ STATE_SIZE }
-    ensures stands { OnOk result (Within (D.may_leave disk.new) (IsNew definition.now (shape_of frames.now))) }
-    ensures length { FailsBy result Length → ⊥ }
-    ensures memory { FailsBy result Memory → ⊥ }
-    ensures formatted { FailsBy result Formatted → IsFormatted (D.seen disk.old) }
-    ensures refused { IsFormatted (D.seen disk.old) → FailsAtMostBy result Formatted }
-    ensures same { IsFormatted (D.seen disk.old) → D.seen disk.new ≡ D.seen disk.old }
-    ensures kept { IsFormatted (D.seen disk.old)
-        → LeavesOnly (D.moment disk.old) (D.moment disk.new) (D.left_since disk.old) (D.left_since disk.new) (D.may_leave disk.new) (D.may_leave disk.old) }
-    ensures any_moment { LeavesOnly (D.moment disk.old) (D.moment disk.new) (D.left_since disk.old) (D.left_since disk.new) (D.may_leave disk.new)
-        (WasOrIsBlank D.may_leave disk.old definition.now (shape_of frames.now)) }
-    ensures cause { CountsCause result (D.failures disk.old) (D.failures disk.new) }
-    ensures asked { AsksToFormat definition.now (shape_of frames.now) result (D.asked disk.old) (D.asked disk.new) }
+    ensures { FormatsAs D.device definition.now (shape_of frames.now) disk.old disk.new result }
 {
     frames.laws();
     holds_one();
@@ -121,18 +104,7 @@ fn format_in_place<D: Disk>(
     definition: &Definition,
     journal: JournalShape,
 ) -> Result<(), FormatCause>
-    ensures stands { OnOk result (Within (D.may_leave disk.new) (IsNew definition.now journal)) }
-    ensures length { FailsBy result Length ↔ (HasLength journal (D.seen disk.old) → ⊥) }
-    ensures formatted { FailsBy result Formatted → IsFormatted (D.seen disk.old) }
-    ensures refused { HasLength journal (D.seen disk.old) → IsFormatted (D.seen disk.old) → FailsAtMostBy result Formatted }
-    ensures untouched { FailsBy result Length ⊎ FailsBy result Memory → disk.new ≡ disk.old }
-    ensures same { IsFormatted (D.seen disk.old) → D.seen disk.new ≡ D.seen disk.old }
-    ensures kept { IsFormatted (D.seen disk.old)
-        → LeavesOnly (D.moment disk.old) (D.moment disk.new) (D.left_since disk.old) (D.left_since disk.new) (D.may_leave disk.new) (D.may_leave disk.old) }
-    ensures any_moment { LeavesOnly (D.moment disk.old) (D.moment disk.new) (D.left_since disk.old) (D.left_since disk.new) (D.may_leave disk.new)
-        (WasOrIsBlank D.may_leave disk.old definition.now journal) }
-    ensures cause { CountsCause result (D.failures disk.old) (D.failures disk.new) }
-    ensures asked { AsksToFormat definition.now journal result (D.asked disk.old) (D.asked disk.new) }
+    ensures { FormatsAs D.device definition.now journal disk.old disk.new result }
 {
     let Some(frames) = frames_of(journal, disk.len()) else {
         return Err(FormatCause::Length);
@@ -150,7 +122,7 @@ fn format_shape<D: Disk + Drop>(
     definition: &Definition,
     journal: JournalShape,
 ) -> Result<D, FormatFault<D>>
-    ensures { FormatsAs D.seen D.may_leave D.moment D.left_since D.failures D.asked definition.now journal disk (given result) (answer_of result) }
+    ensures { FormatsAs D.device definition.now journal disk (given result) (answer_of result) }
 {
     let mut disk = disk;
     match format_in_place(alloc, &mut disk, definition, journal) {
@@ -176,7 +148,7 @@ pub fn format<D: Disk + Drop>(
     definition: &Definition,
     frames: u32,
 ) -> Result<D, FormatFault<D>>
-    ensures formats { FormatsAs D.seen D.may_leave D.moment D.left_since D.failures D.asked definition.now (paged frames) disk (given result) (answer_of result) }
+    ensures formats { FormatsAs D.device definition.now (paged frames) disk (given result) (answer_of result) }
 {
     let layout = JournalLayout::Pages;
     format_shape(alloc, disk, definition, JournalShape { layout, frames })
@@ -196,7 +168,7 @@ pub fn format_layout<D: Disk + Drop>(
     ensures unnamed { ((journal : JournalShape) → Names layout frames journal → ⊥) → FailsBy (answer_of result) Length × (given result ≡ disk) }
     // with any other the device is formatted in that layout.
     ensures formats { (journal : JournalShape) → Names layout frames journal
-        → FormatsAs D.seen D.may_leave D.moment D.left_since D.failures D.asked definition.now journal disk (given result) (answer_of result) }
+        → FormatsAs D.device definition.now journal disk (given result) (answer_of result) }
 {
     match JournalLayout::of_byte(layout) {
         Some(layout) => format_shape(alloc, disk, definition, JournalShape { layout, frames }),

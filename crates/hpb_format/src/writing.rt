@@ -1,16 +1,17 @@
 //! Writes a new device behind its closed gates, and opens it.
 ghost use Rattle.std.specs.Prelude.{◌≡◌, ◌≤◌, ◌+◌, ℕ, List, [], ◌∷◌, ◌++◌, length, OnOk};
 ghost use Rattle.hpb_codec.specs.declared.state.TheConstants.{CHUNKS, STATE_SIZE};
-ghost use Rattle.hpb_disk.specs.Asked.{Asked, Asks, AsksInTurn};
+ghost use Rattle.hpb_disk.specs.Asked.{Asked};
 ghost use Rattle.hpb_disk.specs.Asked.Asked.{syncs, writes};
+ghost use Rattle.hpb_disk.specs.Device.{IsSettled, LeavesOnly};
 ghost use Rattle.hpb_disk.specs.Gates.{open_byte};
-ghost use Rattle.hpb_disk.specs.Images.{part, Only, Torn, Within, CountsFailure, LeavesOnly};
+ghost use Rattle.hpb_disk.specs.Images.{part, Torn, Within};
 ghost use Rattle.hpb_slots.specs.declared.limits.TheConstants.{SLOTS_AT, SLOTS_END};
 ghost use Rattle.hpb_slots.specs.declared.slot.Slot.TheVariants.{First};
 ghost use Rattle.hpb_slots.specs.Slots.{HasChunks};
 ghost use Rattle.hpb_slots.specs.Writes.{opens_slot};
-ghost use Rattle.hpb_format.specs.Asking.{AreClosings, writes_chunks, writing};
-ghost use Rattle.hpb_format.specs.Stages.{AreClosed, ChangesBody, IsClosedOrMade, IsMade, IsOpenAndMade, IsUnheadedOrMade, IsWritten, StaysClosed};
+ghost use Rattle.hpb_format.specs.Asking.{AreClosings, MakesCalls, Writes, writes_chunks, writing};
+ghost use Rattle.hpb_format.specs.Stages.{AreClosed, ChangesBody, IsClosedOrMade, IsMade, IsOpenAndMade, IsUnheadedOrMade, IsWritten};
 ghost use Rattle.hpb_recover.specs.Heads.{IsHeaded};
 ghost use Rattle.hpb_codec.specs.declared.head.TheConstants.{HEAD_SIZE};
 ghost use Rattle.hpb_recover.specs.declared.limits.TheConstants.{HEAD_AT};
@@ -30,14 +31,11 @@ use hpb_tree::Definition;
 
 /// Writes the head behind its gate.
 fn write_head<D: Disk>(disk: &mut D, head: &[u8]) -> Result<(), DiskFailed>
-    requires room { SLOTS_AT ≤ length (D.seen disk.old) }
+    requires room { SLOTS_AT ≤ length (D.device disk.old).seen }
     requires head { length head.now ≡ HEAD_SIZE }
-    ensures written { OnOk result (part HEAD_AT HEAD_SIZE (D.seen disk.new) ≡ head.now) }
-    ensures rest { OnOk result (Torn HEAD_AT HEAD_SIZE (D.seen disk.old) (D.seen disk.new)) }
-    ensures size { length (D.seen disk.new) ≡ length (D.seen disk.old) }
-    ensures any_moment { StaysClosed D.may_leave D.moment D.left_since disk.old disk.new }
-    ensures cause { CountsFailure result (D.failures disk.old) (D.failures disk.new) }
-    ensures asked { Asks result (writes HEAD_AT head.now ∷ []) (D.asked disk.old) (D.asked disk.new) }
+    ensures written { OnOk result (part HEAD_AT HEAD_SIZE (D.device disk.new).seen ≡ head.now) }
+    ensures rest { OnOk result (Torn HEAD_AT HEAD_SIZE (D.device disk.old).seen (D.device disk.new).seen) }
+    ensures calls { Writes result (writes HEAD_AT head.now ∷ []) (D.device disk.old) (D.device disk.new) }
 {
     elsewhere_stays();
     put_is_read();
@@ -47,14 +45,11 @@ fn write_head<D: Disk>(disk: &mut D, head: &[u8]) -> Result<(), DiskFailed>
 
 /// Writes the body of the first slot.
 fn write_state<D: Disk>(disk: &mut D, state: &[u8]) -> Result<(), DiskFailed>
-    requires room { SLOTS_END ≤ length (D.seen disk.old) }
+    requires room { SLOTS_END ≤ length (D.device disk.old).seen }
     requires state { length state.now ≡ STATE_SIZE }
-    ensures written { OnOk result (HasChunks First CHUNKS state.now (D.seen disk.new)) }
-    ensures rest { OnOk result (ChangesBody (D.seen disk.old) (D.seen disk.new)) }
-    ensures size { length (D.seen disk.new) ≡ length (D.seen disk.old) }
-    ensures any_moment { StaysClosed D.may_leave D.moment D.left_since disk.old disk.new }
-    ensures cause { CountsFailure result (D.failures disk.old) (D.failures disk.new) }
-    ensures asked { AsksInTurn result (writes_chunks CHUNKS state.now) (D.asked disk.old) (D.asked disk.new) }
+    ensures written { OnOk result (HasChunks First CHUNKS state.now (D.device disk.new).seen) }
+    ensures rest { OnOk result (ChangesBody (D.device disk.old).seen (D.device disk.new).seen) }
+    ensures calls { Writes result (writes_chunks CHUNKS state.now) (D.device disk.old) (D.device disk.new) }
 {
     for i in 0..CHUNKS {
         write_chunk(disk, Slot::First, i, state)?;
@@ -69,15 +64,12 @@ fn write_all<D: Disk, F: Frames>(
     head: &[u8],
     state: &[u8],
 ) -> Result<(), DiskFailed>
-    requires room { length (D.seen disk.old) ≡ (F.layout frames.now).size }
-    requires closed { AreClosed (F.layout frames.now) (D.seen disk.old) }
+    requires room { length (D.device disk.old).seen ≡ (F.layout frames.now).size }
+    requires closed { AreClosed (F.layout frames.now) (D.device disk.old).seen }
     requires head { length head.now ≡ HEAD_SIZE }
     requires state { length state.now ≡ STATE_SIZE }
-    ensures written { OnOk result (IsWritten (F.layout frames.now) head.now state.now (D.seen disk.new)) }
-    ensures size { length (D.seen disk.new) ≡ length (D.seen disk.old) }
-    ensures any_moment { StaysClosed D.may_leave D.moment D.left_since disk.old disk.new }
-    ensures cause { CountsFailure result (D.failures disk.old) (D.failures disk.new) }
-    ensures asked { AsksInTurn result (syncs ∷ writes_chunks CHUNKS state.now ++ writes HEAD_AT head.now ∷ []) (D.asked disk.old) (D.asked disk.new) }
+    ensures written { OnOk result (IsWritten (F.layout frames.now) head.now state.now (D.device disk.new).seen) }
+    ensures calls { Writes result (syncs ∷ writes_chunks CHUNKS state.now ++ writes HEAD_AT head.now ∷ []) (D.device disk.old) (D.device disk.new) }
 {
     frames.laws();
     elsewhere_stays();
@@ -89,14 +81,11 @@ fn write_all<D: Disk, F: Frames>(
 
 /// Opens the first slot of a device that is written, and syncs.
 fn open_first<D: Disk, F: Frames>(disk: &mut D, frames: &F) -> Result<(), DiskFailed>
-    requires room { SLOTS_END ≤ length (D.seen disk.old) }
-    ensures made { (head state : List ℕ) → IsWritten (F.layout frames.now) head state (D.seen disk.old)
-        → OnOk result (IsMade (F.layout frames.now) head state (D.seen disk.new)) }
-    ensures settled { OnOk result (Only (D.seen disk.new) (D.may_leave disk.new)) }
-    ensures size { length (D.seen disk.new) ≡ length (D.seen disk.old) }
-    ensures any_moment { StaysClosed D.may_leave D.moment D.left_since disk.old disk.new }
-    ensures cause { CountsFailure result (D.failures disk.old) (D.failures disk.new) }
-    ensures asked { AsksInTurn result (syncs ∷ opens_slot First ∷ []) (D.asked disk.old) (D.asked disk.new) }
+    requires room { SLOTS_END ≤ length (D.device disk.old).seen }
+    ensures made { (head state : List ℕ) → IsWritten (F.layout frames.now) head state (D.device disk.old).seen
+        → OnOk result (IsMade (F.layout frames.now) head state (D.device disk.new).seen) }
+    ensures settled { OnOk result (IsSettled (D.device disk.new)) }
+    ensures calls { Writes result (syncs ∷ opens_slot First ∷ []) (D.device disk.old) (D.device disk.new) }
 {
     frames.laws();
     open_slot(disk, Slot::First)?;
@@ -109,16 +98,13 @@ fn write_behind<D: Disk, F: Frames>(
     frames: &F,
     new: &NewDevice,
 ) -> Result<(), DiskFailed>
-    requires room { length (D.seen disk.old) ≡ (F.layout frames.now).size }
-    requires closed { AreClosed (F.layout frames.now) (D.seen disk.old) }
+    requires room { length (D.device disk.old).seen ≡ (F.layout frames.now).size }
+    requires closed { AreClosed (F.layout frames.now) (D.device disk.old).seen }
     requires head { length new.now.head.items ≡ HEAD_SIZE }
     requires state { length new.now.state.items ≡ STATE_SIZE }
-    ensures made { OnOk result (IsMade (F.layout frames.now) new.now.head.items new.now.state.items (D.seen disk.new)) }
-    ensures settled { OnOk result (Only (D.seen disk.new) (D.may_leave disk.new)) }
-    ensures size { length (D.seen disk.new) ≡ length (D.seen disk.old) }
-    ensures any_moment { StaysClosed D.may_leave D.moment D.left_since disk.old disk.new }
-    ensures cause { CountsFailure result (D.failures disk.old) (D.failures disk.new) }
-    ensures asked { AsksInTurn result (writing new.now.head.items new.now.state.items) (D.asked disk.old) (D.asked disk.new) }
+    ensures made { OnOk result (IsMade (F.layout frames.now) new.now.head.items new.now.state.items (D.device disk.new).seen) }
+    ensures settled { OnOk result (IsSettled (D.device disk.new)) }
+    ensures calls { Writes result (writing new.now.head.items new.now.state.items) (D.device disk.old) (D.device disk.new) }
 {
     frames.laws();
     write_all(disk, frames, &new.head, &new.state)?;
@@ -127,15 +113,13 @@ fn write_behind<D: Disk, F: Frames>(
 
 /// Opens the head of a device on which all else is written, and syncs.
 fn open_head<D: Disk, F: Frames>(disk: &mut D, frames: &F) -> Result<(), DiskFailed>
-    requires room { SLOTS_END ≤ length (D.seen disk.old) }
-    requires settled { Only (D.seen disk.old) (D.may_leave disk.old) }
-    ensures made { (head state : List ℕ) → IsMade (F.layout frames.now) head state (D.seen disk.old)
-        → OnOk result (Within (D.may_leave disk.new) (IsOpenAndMade (F.layout frames.now) head state)) }
-    ensures any_moment { (head state : List ℕ) → IsMade (F.layout frames.now) head state (D.seen disk.old)
-        → LeavesOnly (D.moment disk.old) (D.moment disk.new) (D.left_since disk.old) (D.left_since disk.new) (D.may_leave disk.new)
-        (IsClosedOrMade (F.layout frames.now) head state) }
-    ensures cause { CountsFailure result (D.failures disk.old) (D.failures disk.new) }
-    ensures asked { AsksInTurn result (syncs ∷ writes HEAD_GATE open_byte ∷ []) (D.asked disk.old) (D.asked disk.new) }
+    requires room { SLOTS_END ≤ length (D.device disk.old).seen }
+    requires settled { IsSettled (D.device disk.old) }
+    ensures made { (head state : List ℕ) → IsMade (F.layout frames.now) head state (D.device disk.old).seen
+        → OnOk result (Within (D.device disk.new).may_leave (IsOpenAndMade (F.layout frames.now) head state)) }
+    ensures any_moment { (head state : List ℕ) → IsMade (F.layout frames.now) head state (D.device disk.old).seen
+        → LeavesOnly (D.device disk.old) (D.device disk.new) (IsClosedOrMade (F.layout frames.now) head state) }
+    ensures calls { MakesCalls result (syncs ∷ writes HEAD_GATE open_byte ∷ []) (D.device disk.old) (D.device disk.new) }
 {
     frames.laws();
     elsewhere_stays();
@@ -153,17 +137,16 @@ pub(crate) fn write_new<D: Disk, F: Frames>(
     definition: &Definition,
     new: &NewDevice,
 ) -> Result<(), DiskFailed>
-    requires room { length (D.seen disk.old) ≡ (F.layout frames.now).size }
-    requires settled { Only (D.seen disk.old) (D.may_leave disk.old) }
-    requires unheaded { IsHeaded (D.seen disk.old) → ⊥ }
+    requires room { length (D.device disk.old).seen ≡ (F.layout frames.now).size }
+    requires settled { IsSettled (D.device disk.old) }
+    requires unheaded { IsHeaded (D.device disk.old).seen → ⊥ }
     requires head { length new.now.head.items ≡ HEAD_SIZE }
     requires state { length new.now.state.items ≡ STATE_SIZE }
-    ensures made { OnOk result (Within (D.may_leave disk.new) (IsOpenAndMade (F.layout frames.now) new.now.head.items new.now.state.items)) }
-    ensures any_moment { LeavesOnly (D.moment disk.old) (D.moment disk.new) (D.left_since disk.old) (D.left_since disk.new) (D.may_leave disk.new)
+    ensures made { OnOk result (Within (D.device disk.new).may_leave (IsOpenAndMade (F.layout frames.now) new.now.head.items new.now.state.items)) }
+    ensures any_moment { LeavesOnly (D.device disk.old) (D.device disk.new)
         (IsUnheadedOrMade (F.layout frames.now) new.now.head.items new.now.state.items) }
-    ensures cause { CountsFailure result (D.failures disk.old) (D.failures disk.new) }
-    ensures asked { (calls : List Asked) × AreClosings (F.shape frames.now) (3 + (F.layout frames.now).count) calls
-        × AsksInTurn result ((syncs ∷ writes HEAD_GATE open_byte ∷ []) ++ writing new.now.head.items new.now.state.items ++ syncs ∷ calls) (D.asked disk.old) (D.asked disk.new) }
+    ensures calls { (calls : List Asked) × AreClosings (F.shape frames.now) (3 + (F.layout frames.now).count) calls
+        × MakesCalls result ((syncs ∷ writes HEAD_GATE open_byte ∷ []) ++ writing new.now.head.items new.now.state.items ++ syncs ∷ calls) (D.device disk.old) (D.device disk.new) }
 {
     frames.laws();
     open_or_closed();

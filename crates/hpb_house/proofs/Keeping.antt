@@ -1,5 +1,5 @@
 -- The facts about a keeper hold after each step.
-use Rattle.std.proofs.Common.{◌≡◌, ℕ, suc, ◌+◌, ◌<◌, ◌==◌, Bool, true, false, None, Option, Some, List, [], ◌∷◌, ◌++◌, Ok, Err, Result, refl, sym, ap, ◌∙◌, subst, arith}
+use Rattle.std.proofs.Common.{◌≡◌, suc, ◌+◌, ◌<◌, ◌==◌, Bool, true, false, None, Option, Some, List, [], ◌∷◌, ◌++◌, Ok, Err, Result, refl, sym, ap, ◌∙◌, subst, arith}
 use Rattle.std.specs.Prelude.{if◌then◌else◌}
 use Rattle.std.proofs.lemmas.List.{append-nil}
 use Rattle.std.proofs.lemmas.Bool.Decides.{nat_tests}
@@ -14,6 +14,7 @@ use Rattle.hpb_rules.specs.Tree.{Rules}
 use Rattle.hpb_rules.specs.Values.{value_after}
 use Rattle.hpb_rules.specs.Judging.{judged_in, value_by, letters_of}
 use Rattle.hpb_rules.specs.LetterLaws.{JudgedIsShown}
+use Rattle.hpb_disk.specs.Device.{Device}
 use Rattle.hpb_recover.specs.Standing.{Stands}
 use Rattle.hpb_engine.specs.declared.progress.Commit.{Commit}
 use Rattle.hpb_engine.specs.declared.progress.Progress.{Progress}
@@ -27,7 +28,7 @@ use Rattle.hpb_engine.specs.Offers.{AreOld}
 use Rattle.hpb_engine.specs.Steps.{TurnLeads, turn_by}
 use Rattle.hpb_board.specs.Publication.{Publishing, published}
 use Rattle.hpb_rules.specs.Fronts.{joined}
-use Rattle.hpb_house.specs.Keepers.{Keeping, IsKept, KeepsEach, pending_of, history_by, machine_by}
+use Rattle.hpb_house.specs.Keepers.{Keeping, IsKept, IsTold, KeepsEach, pending_of, history_by, machine_by, running_in}
 use Rattle.hpb_house.proofs.Leading.{lead_one, history_one, judged_letters}
 use Rattle.hpb_rules.proofs.Judged.{new_after, rules_by}
 
@@ -127,10 +128,20 @@ IsNotDone (Ok steps.Went) = Unit {0}
 IsNotDone (Ok (steps.Done answers)) = ⊥
 IsNotDone (Err fault) = Unit {0}
 
-module _ {D : Type 0} (seen : D → List ℕ) (may_leave : D → List ℕ → Type 0) where
-  kept_as : (k : Keeping D) (m : Machine) (history : List Command) → Keeps seen may_leave k.disk k.progress k.failed m → m.acknowledged ≡ history
-      → Keeps seen may_leave k.disk k.progress k.failed (machine_of k.progress history)
-  kept_as k m history keeps is = subst (Keeps seen may_leave k.disk k.progress k.failed) (same_machine m history (flight_of k.progress.commit) is keeps.flight) keeps
+module _ {D : Type 0} (device : D → Device) where
+  kept_as : (k : Keeping D) (m : Machine) (history : List Command) → Keeps (running_in device k) m → m.acknowledged ≡ history → Keeps (running_in device k) (machine_of k.progress history)
+  kept_as k m history keeps is = subst (Keeps (running_in device k)) (same_machine m history (flight_of k.progress.commit) is keeps.flight) keeps
+
+  -- the opened device is the same, and the facts about failed calls hold
+  abbrev GoesOn : (old new : Keeping D) → Type 0
+  GoesOn old new = (new.opened ≡ old.opened) × IsTold new.failed (device new.opened) (device new.disk)
+
+  stood : {a b : D} (history : List Command) → a ≡ b → Stands history (device a).seen → Stands history (device b).seen
+  stood history is = subst (λ (d : D). Stands history (device d).seen) is
+
+  begun_on : {k : Keeping D} {opened : D} {auction : AuctionValue} → IsKept device k → opened ≡ k.opened → auction ≡ k.board.opened
+      → (history : List Command) → Stands history (device opened).seen → Shows auction history
+  begun_on is began same = λ history stands. subst (λ (value : AuctionValue). Shows value history) (sym same) (is.begins history (stood history began stands))
 
   -- the acknowledged commands of the machine that is kept
   abbrev acknowledged_by : Keeping D → List Command → List Command
@@ -146,105 +157,95 @@ module _ {D : Type 0} (seen : D → List ℕ) (may_leave : D → List ℕ → Ty
   answered_so law k shown history shows letters = law k.progress.committed history letters shows ∙ ap (λ (rules : Rules). judged rules history letters) (ruled k shown)
 
   -- the published and the prepared batches stay, and the machine acknowledges nothing
-  pub quiet_kept : {k k' : Keeping D} → IsKept seen may_leave k → k'.image ≡ k.image → k'.board ≡ k.board → AreAlike k.progress k'.progress
-      → ((history : List Command) → Keeps seen may_leave k.disk k.progress k.failed (machine_by k history)
-      → (m : Machine) × (m.acknowledged ≡ (machine_by k history).acknowledged) × Keeps seen may_leave k'.disk k'.progress k'.failed m)
-      → IsKept seen may_leave k'
-  quiet_kept {k} {k'} is image board are moves = record {
+  pub quiet_kept : {k k' : Keeping D} → IsKept device k → GoesOn k k' → k'.board ≡ k.board → AreAlike k.progress k'.progress
+      → ((history : List Command) → Keeps (running_in device k) (machine_by k history) → (m : Machine) × (m.acknowledged ≡ (machine_by k history).acknowledged) × Keeps (running_in device k') m)
+      → IsKept device k'
+  quiet_kept {k} {k'} is began board are moves = record {
     shown = ap published board ∙ (is.shown ∙ sym are.0);
-    prepared = ap (λ (b : Publishing). b.pending) board ∙ (is.prepared ∙ same (sym are.1) (sym are.2));
-    judged = λ now. are.2 ∙ (is.judged (sym are.1 ∙ now) ∙ both (sym are.0) (sym are.2));
-    working = λ now. are.3 ∙ (is.working (sym are.1 ∙ now) ∙ led (sym are.0) (sym are.2));
+    prepared = rw (board, are.1, are.2) is.prepared;
+    judged = rw (are.0, are.1, are.2) is.judged;
+    working = rw (are.0, are.1, are.2, are.3) is.working;
+    told = began.1;
+    begins = begun_on is began.0 (ap (λ (b : Publishing). b.opened) board);
     keeps = λ history stands.
-        let old = is.keeps history (subst (Stands history) image stands) in
+        let old = is.keeps history (stood history began.0 stands) in
         let moved = moves history old in
         kept_as k' moved.0 (acknowledged_by k' history) moved.2 (moved.1 ∙ ap (λ (b : Publishing). history_by b.opened.rules history (joined b.list)) (sym board));
   }
-    where
-      same : {b b' : Bool} {xs ys : List Answer} → b ≡ b' → xs ≡ ys → (if b then letters_of xs ∷ [] else []) ≡ (if b' then letters_of ys ∷ [] else [])
-      same {b} {b'} {xs} {ys} e f = ap (λ x. if x then letters_of xs ∷ [] else []) e ∙ ap (λ zs. if b' then letters_of zs ∷ [] else []) f
-
-      both : {v v' : AuctionValue} {xs ys : List Answer} → v ≡ v' → xs ≡ ys → judged_in v (letters_of xs) ≡ judged_in v' (letters_of ys)
-      both {v} {v'} {xs} {ys} e f = ap (λ x. judged_in x (letters_of xs)) e ∙ ap (λ zs. judged_in v' (letters_of zs)) f
-
-      led : {v v' : AuctionValue} {xs ys : List Answer} → v ≡ v' → xs ≡ ys → value_by v (letters_of xs) ≡ value_by v' (letters_of ys)
-      led {v} {v'} {xs} {ys} e f = ap (λ x. value_by x (letters_of xs)) e ∙ ap (λ zs. value_by v' (letters_of zs)) f
 
   -- a keeper at its start
   pub started_kept : {k : Keeping D} → k.board.opened ≡ k.progress.committed → k.board.list ≡ [] → k.board.pending ≡ [] → k.progress.commit.busy ≡ false
-      → KeepsEach seen may_leave k.image k.disk k.progress k.failed at_rest
-      → IsKept seen may_leave k
-  started_kept {k} opened list pending free keeps = record {
+      → IsTold k.failed (device k.opened) (device k.disk) → KeepsEach (device k.opened) (running_in device k) at_rest → IsKept device k
+  started_kept {k} opened list pending free told keeps = record {
     shown = ap (λ (l : List (List Letter)). value_by k.board.opened (joined l)) list ∙ opened;
     prepared = pending ∙ sym (free_pending k.progress.commit free);
     judged = λ busy. idle free busy;
     working = λ busy. idle free busy;
+    told = told;
+    begins = λ history stands. subst (λ (value : AuctionValue). Shows value history) (sym opened) (keeps history stands).shows;
     keeps = λ history stands.
         let e : history ≡ acknowledged_by k history = sym (ap (λ (l : List (List Letter)). history_by k.board.opened.rules history (joined l)) list ∙ append-nil history) in
         kept_as k (at_rest history) (acknowledged_by k history) (keeps history stands) e;
   }
 
   -- letters are put in flight
-  pub begun_kept : {k k' : Keeping D} (letters : List Letter) → IsKept seen may_leave k → k'.image ≡ k.image
+  pub begun_kept : {k k' : Keeping D} (letters : List Letter) → IsKept device k → GoesOn k k'
       → k'.board.opened ≡ k.board.opened → k'.board.list ≡ k.board.list → k'.board.pending ≡ letters ∷ []
       → k'.progress ≡ begun k.progress k'.progress.commit.batch k'.progress.commit.answers k'.progress.commit.working
       → k'.progress.commit.answers ≡ judged_in k.progress.committed letters
       → k'.progress.commit.working ≡ value_after k.progress.committed (new_commands (judged_in k.progress.committed letters))
-      → ((machine : Machine) → Keeps seen may_leave k.disk k.progress k.failed machine
-      → Keeps seen may_leave k'.disk k'.progress k'.failed (take_letters k.progress.committed.rules machine letters).machine)
-      → IsKept seen may_leave k'
-  begun_kept {k} {k'} letters is image opened list pending begins answers working keeps =
+      → ((machine : Machine) → Keeps (running_in device k) machine → Keeps (running_in device k') (take_letters k.progress.committed.rules machine letters).machine)
+      → IsKept device k'
+  begun_kept {k} {k'} letters is began opened list pending begins answers working keeps =
       let busy : k'.progress.commit.busy ≡ true = ap (λ (s : Progress). s.commit.busy) begins in
       let committed : k'.progress.committed ≡ k.progress.committed = ap (λ (s : Progress). s.committed) begins in
       let own : letters_of k'.progress.commit.answers ≡ letters = ap letters_of answers ∙ judged_letters k.progress.committed letters in
       record {
-        shown = ap (λ (v : AuctionValue). value_by v (joined k'.board.list)) opened ∙ (ap (λ (l : List (List Letter)). value_by k.board.opened (joined l)) list ∙ (is.shown ∙ sym committed));
+        shown = rw (opened, list, committed) is.shown;
         prepared = pending ∙ sym (busy_pending k'.progress.commit busy ∙ ap (λ (l : List Letter). l ∷ []) own);
         judged = λ now. answers ∙ (ap (λ (v : AuctionValue). judged_in v letters) (sym committed) ∙ ap (judged_in k'.progress.committed) (sym own));
         working = λ now. working ∙ (new_after k.progress.committed letters ∙ (ap (λ (v : AuctionValue). value_by v letters) (sym committed) ∙ ap (value_by k'.progress.committed) (sym own)));
+        told = began.1;
+        begins = begun_on is began.0 opened;
         keeps = λ history stands.
-            let old = is.keeps history (subst (Stands history) image stands) in
+            let old = is.keeps history (stood history began.0 stands) in
             let m = machine_by k history in
             let e : (take_letters k.progress.committed.rules m letters).machine.acknowledged ≡ acknowledged_by k' history =
-            taken_acknowledged k.progress.committed.rules m letters
-            ∙ (ap (λ (v : AuctionValue). history_by v.rules history (joined k.board.list)) (sym opened)
-            ∙ ap (λ (l : List (List Letter)). history_by k'.board.opened.rules history (joined l)) (sym list)) in
+            rw (opened, list) (taken_acknowledged k.progress.committed.rules m letters) in
             kept_as k' (take_letters k.progress.committed.rules m letters).machine (acknowledged_by k' history) (keeps m old) e;
       }
 
   -- one more batch is published, and nothing is in flight
-  grown_kept : JudgedJoin → {k k' : Keeping D} (letters : List Letter) → IsKept seen may_leave k → k'.image ≡ k.image
+  grown_kept : JudgedJoin → {k k' : Keeping D} (letters : List Letter) → IsKept device k → GoesOn k k'
       → k'.board.opened ≡ k.board.opened → k'.board.list ≡ k.board.list ++ letters ∷ [] → k'.board.pending ≡ [] → k'.progress.commit.busy ≡ false
       → value_by k.progress.committed letters ≡ k'.progress.committed
-      → ((history : List Command) → Keeps seen may_leave k.disk k.progress k.failed (machine_by k history)
+      → ((history : List Command) → Keeps (running_in device k) (machine_by k history)
       → (m : Machine) × (m.acknowledged ≡ acknowledged_by k history ++ new_commands (judged k.board.opened.rules (acknowledged_by k history) letters))
-      × Keeps seen may_leave k'.disk k'.progress k'.failed m)
-      → IsKept seen may_leave k'
-  grown_kept join {k} {k'} letters is image opened list pending free leads moves = record {
-    shown = ap (λ (v : AuctionValue). value_by v (joined k'.board.list)) opened
-        ∙ (ap (λ (l : List (List Letter)). value_by k.board.opened (joined l)) list
-        ∙ (lead_one k.board.opened k.board.list letters ∙ (ap (λ (v : AuctionValue). value_by v letters) is.shown ∙ leads)));
+      × Keeps (running_in device k') m)
+      → IsKept device k'
+  grown_kept join {k} {k'} letters is began opened list pending free leads moves = record {
+    shown = rw (opened, list) (lead_one k.board.opened k.board.list letters ∙ (ap (λ (v : AuctionValue). value_by v letters) is.shown ∙ leads));
     prepared = pending ∙ sym (free_pending k'.progress.commit free);
     judged = λ busy. idle free busy;
     working = λ busy. idle free busy;
+    told = began.1;
+    begins = begun_on is began.0 opened;
     keeps = λ history stands.
-        let moved = moves history (is.keeps history (subst (Stands history) image stands)) in
+        let moved = moves history (is.keeps history (stood history began.0 stands)) in
         let e : acknowledged_by k' history ≡ acknowledged_by k history ++ new_commands (judged k.board.opened.rules (acknowledged_by k history) letters) =
-        ap (λ (v : AuctionValue). history_by v.rules history (joined k'.board.list)) opened
-        ∙ (ap (λ (l : List (List Letter)). history_by k.board.opened.rules history (joined l)) list ∙ history_one join k.board.opened.rules history k.board.list letters) in
+        rw (opened, list) (history_one join k.board.opened.rules history k.board.list letters) in
         kept_as k' moved.0 (acknowledged_by k' history) moved.2 (moved.1 ∙ sym e);
   }
 
   -- if no letter is new, they are answered at once
-  pub answered_kept : JudgedIsShown → JudgedJoin → {k k' : Keeping D} (letters : List Letter) → IsKept seen may_leave k → k'.image ≡ k.image
+  pub answered_kept : JudgedIsShown → JudgedJoin → {k k' : Keeping D} (letters : List Letter) → IsKept device k → GoesOn k k'
       → k'.board.opened ≡ k.board.opened → k'.board.list ≡ k.board.list ++ letters ∷ [] → k'.board.pending ≡ []
       → k'.progress ≡ k.progress → k'.progress.commit.busy ≡ false → AreOld k.progress letters
-      → ((machine : Machine) → Keeps seen may_leave k.disk k.progress k.failed machine
-      → Keeps seen may_leave k'.disk k'.progress k'.failed (take_letters k.progress.committed.rules machine letters).machine)
-      → IsKept seen may_leave k'
-  answered_kept shown_law join {k} {k'} letters is image opened list pending same free old keeps =
+      → ((machine : Machine) → Keeps (running_in device k) machine → Keeps (running_in device k') (take_letters k.progress.committed.rules machine letters).machine)
+      → IsKept device k'
+  answered_kept shown_law join {k} {k'} letters is began opened list pending same free old keeps =
       let stays : value_by k.progress.committed letters ≡ k.progress.committed = sym (new_after k.progress.committed letters) ∙ ap (value_after k.progress.committed) old in
-      grown_kept join letters is image opened list pending free (stays ∙ ap (λ (s : Progress). s.committed) (sym same))
+      grown_kept join letters is began opened list pending free (stays ∙ ap (λ (s : Progress). s.committed) (sym same))
       (λ history before.
       let m = machine_by k history in
       let none : new_commands (judged k.board.opened.rules (acknowledged_by k history) letters) ≡ [] =
@@ -256,15 +257,15 @@ module _ {D : Type 0} (seen : D → List ℕ) (may_leave : D → List ℕ → Ty
       ))
 
   -- the batch in flight is acknowledged
-  acknowledged_kept : JudgedIsShown → JudgedJoin → {k k' : Keeping D} → IsKept seen may_leave k → k'.image ≡ k.image
+  acknowledged_kept : JudgedIsShown → JudgedJoin → {k k' : Keeping D} → IsKept device k → GoesOn k k'
       → k'.board.opened ≡ k.board.opened → k'.board.list ≡ k.board.list ++ k.board.pending → k'.board.pending ≡ []
       → k.progress.commit.busy ≡ true → k.progress.commit.turns ≡ 3 → k'.progress ≡ acknowledged k.progress
-      → ((machine : Machine) → Keeps seen may_leave k.disk k.progress k.failed machine → Keeps seen may_leave k'.disk k'.progress k'.failed (turn true machine).machine)
-      → IsKept seen may_leave k'
-  acknowledged_kept shown_law join {k} {k'} is image opened list pending busy turns next keeps =
+      → ((machine : Machine) → Keeps (running_in device k) machine → Keeps (running_in device k') (turn true machine).machine)
+      → IsKept device k'
+  acknowledged_kept shown_law join {k} {k'} is began opened list pending busy turns next keeps =
       let letters = letters_of k.progress.commit.answers in
       let grown : k'.board.list ≡ k.board.list ++ letters ∷ [] = list ∙ ap (λ (l : List (List Letter)). k.board.list ++ l) (is.prepared ∙ busy_pending k.progress.commit busy) in
-      grown_kept join letters is image opened grown pending (ap (λ (s : Progress). s.commit.busy) next) (sym (is.working busy) ∙ sym (ap (λ (s : Progress). s.committed) next))
+      grown_kept join letters is began opened grown pending (ap (λ (s : Progress). s.commit.busy) next) (sym (is.working busy) ∙ sym (ap (λ (s : Progress). s.committed) next))
       (λ history before.
       let m = machine_by k history in
       let flight : Flight = record { answers = k.progress.commit.answers; turns = k.progress.commit.turns } in
@@ -278,31 +279,31 @@ module _ {D : Type 0} (seen : D → List ℕ) (may_leave : D → List ℕ → Ty
       ((turn true m).machine, gives ∙ ap (λ (answers : List Answer). acknowledged_by k history ++ new_commands answers) so, keeps m before))
 
   -- the last turn, which publishes the prepared batch
-  pub done_kept : JudgedIsShown → JudgedJoin → {k k' : Keeping D} (result : Result Step Fault) → IsDone result → IsKept seen may_leave k → k'.image ≡ k.image
+  pub done_kept : JudgedIsShown → JudgedJoin → {k k' : Keeping D} (result : Result Step Fault) → IsDone result → IsKept device k → GoesOn k k'
       → k'.board.opened ≡ k.board.opened → k'.board.list ≡ k.board.list ++ k.board.pending → k'.board.pending ≡ []
       → TurnLeads k.failed result k.progress k'.progress
-      → ((machine : Machine) → Keeps seen may_leave k.disk k.progress k.failed machine → Keeps seen may_leave k'.disk k'.progress k'.failed (turn_by result machine).machine)
-      → IsKept seen may_leave k'
-  done_kept shown_law join (Ok steps.Idle) done is image opened list pending leads keeps = absurd done
-  done_kept shown_law join (Ok steps.Went) done is image opened list pending leads keeps = absurd done
-  done_kept shown_law join (Ok (steps.Done answers)) done is image opened list pending leads keeps =
-      acknowledged_kept shown_law join is image opened list pending leads.1 leads.2 leads.4 keeps
-  done_kept shown_law join (Err fault) done is image opened list pending leads keeps = absurd done
+      → ((machine : Machine) → Keeps (running_in device k) machine → Keeps (running_in device k') (turn_by result machine).machine)
+      → IsKept device k'
+  done_kept shown_law join (Ok steps.Idle) done is began opened list pending leads keeps = absurd done
+  done_kept shown_law join (Ok steps.Went) done is began opened list pending leads keeps = absurd done
+  done_kept shown_law join (Ok (steps.Done answers)) done is began opened list pending leads keeps =
+      acknowledged_kept shown_law join is began opened list pending leads.1 leads.2 leads.4 keeps
+  done_kept shown_law join (Err fault) done is began opened list pending leads keeps = absurd done
 
   -- a turn that isn't the last one
-  pub turned_kept : {k k' : Keeping D} (result : Result Step Fault) → IsNotDone result → IsKept seen may_leave k → k'.image ≡ k.image → k'.board ≡ k.board
+  pub turned_kept : {k k' : Keeping D} (result : Result Step Fault) → IsNotDone result → IsKept device k → GoesOn k k' → k'.board ≡ k.board
       → TurnLeads k.failed result k.progress k'.progress
-      → ((machine : Machine) → Keeps seen may_leave k.disk k.progress k.failed machine → Keeps seen may_leave k'.disk k'.progress k'.failed (turn_by result machine).machine)
-      → IsKept seen may_leave k'
-  turned_kept {k} {k'} (Ok steps.Idle) not is image board leads keeps =
-      quiet_kept is image board (alike k.progress leads.2)
+      → ((machine : Machine) → Keeps (running_in device k) machine → Keeps (running_in device k') (turn_by result machine).machine)
+      → IsKept device k'
+  turned_kept {k} {k'} (Ok steps.Idle) not is began board leads keeps =
+      quiet_kept is began board (alike k.progress leads.2)
       (λ history old. ((turn true (machine_by k history)).machine, idle_acknowledged k.progress (acknowledged_by k history) leads.1, keeps (machine_by k history) old))
-  turned_kept {k} {k'} (Ok steps.Went) not is image board leads keeps =
-      quiet_kept is image board (alike (turned k.progress (k.progress.commit.turns + 1)) leads.3)
+  turned_kept {k} {k'} (Ok steps.Went) not is began board leads keeps =
+      quiet_kept is began board (alike (turned k.progress (k.progress.commit.turns + 1)) leads.3)
       (λ history old. ((turn true (machine_by k history)).machine, went_acknowledged k.progress (acknowledged_by k history) leads.1 leads.2, keeps (machine_by k history) old))
-  turned_kept (Ok (steps.Done answers)) not is image board leads keeps = absurd not
-  turned_kept {k} {k'} (Err faults.Device) not is image board leads keeps =
-      quiet_kept is image board (device_alike k.progress k'.progress leads.2 leads.3 (k.progress.commit.turns == 2) refl)
+  turned_kept (Ok (steps.Done answers)) not is began board leads keeps = absurd not
+  turned_kept {k} {k'} (Err faults.Device) not is began board leads keeps =
+      quiet_kept is began board (device_alike k.progress k'.progress leads.2 leads.3 (k.progress.commit.turns == 2) refl)
       (λ history old. ((turn false (machine_by k history)).machine, failed_acknowledged (machine_by k history), keeps (machine_by k history) old))
-  turned_kept {k} {k'} (Err faults.Failed) not is image board leads keeps =
-      quiet_kept is image board (alike k.progress leads.1) (λ history old. (machine_by k history, refl, keeps (machine_by k history) old))
+  turned_kept {k} {k'} (Err faults.Failed) not is began board leads keeps =
+      quiet_kept is began board (alike k.progress leads.1) (λ history old. (machine_by k history, refl, keeps (machine_by k history) old))

@@ -2,23 +2,22 @@
 use Rattle.std.proofs.Common.{◌≡◌, inl, inr, ⊎_elim, ℕ, All, Bool, List, [], ◌∷◌, ◌++◌, Some, None, true, false, ap, refl, sym, subst}
 use Rattle.std.specs.Prelude.{if◌then◌else◌}
 use mathlib.Core.List.{IsPrefix}
-use Rattle.logbook.specs.declared.tokens.Seen.{Seen}
 use Rattle.hpb_rules.specs.declared.command.Command.{Command}
 use Rattle.hpb_rules.specs.declared.letter.Answer.{Answer}
-use Rattle.hpb_rules.specs.declared.letter.Letter.{Letter}
 use Rattle.hpb_rules.specs.AuctionValue.{AuctionValue}
 use Rattle.hpb_rules.specs.Letters.{new_commands}
 use Rattle.hpb_rules.specs.Judging.{judged_in, letters_of}
 use Rattle.hpb_rules.specs.LetterLaws.{JudgedIsShown}
+use Rattle.hpb_disk.specs.Device.{Device}
 use Rattle.hpb_recover.specs.Standing.{Stands}
 use Rattle.hpb_engine.specs.declared.progress.Commit.{Commit}
 use Rattle.hpb_engine.specs.Keeping.{Keeps, StandsFor, flight_of, machine_of}
-use Rattle.hpb_board.specs.Publication.{published}
 use Rattle.hpb_rules.specs.Fronts.{joined}
 use Rattle.hpb_rings.specs.declared.report.Report.{Report}
 use Rattle.hpb_house.specs.Histories.{history_in}
 use Rattle.hpb_house.specs.Closings.{GivesBack, StandsWith, batch_of, commands_of}
-use Rattle.hpb_house.specs.Keepers.{Begins, IsTold, Keeping, history_by, in_flight_of, machine_by, pending_of}
+use Rattle.hpb_house.specs.Keepers.{IsKept, Keeping, history_by, in_flight_of, pending_of, running_in}
+use Rattle.hpb_house.specs.declared.closing.Closing.{Closing}
 
 -- after a stop there may stand a history, or that and then the commands in flight
 stands_with : (commit : Commit) (history : List Command) (image : List ℕ) → StandsFor (record { acknowledged = history; flight = flight_of commit }) image
@@ -58,43 +57,46 @@ judged_flight commit value answers judged = by commit.busy judged
 
 -- the history that a keeper's machine acknowledges is that of its opened device, and then the commands that its list
 -- newly accepts
-module _ {D : Type 0} (seen : D → List ℕ) (may_leave : D → List ℕ → Type 0) (fails : D → ℕ) (stays : (disk : D) → may_leave disk (seen disk)) (law : JudgedIsShown) (k : Keeping D)
-    (begins : Begins k.board.opened k.image)
-    (keeps : (history : List Command) → Stands history k.image → Keeps seen may_leave k.disk k.progress k.failed (machine_by k history)) where
+module _ {D : Type 0} (device : D → Device) (law : JudgedIsShown) (k : Keeping D) (facts : IsKept device k) where
   abbrev commands : List Command
   commands = history_in k.board.opened k.board.list
 
-  kept : (history : List Command) → Stands history k.image → Keeps seen may_leave k.disk k.progress k.failed (machine_of k.progress (history ++ commands))
+  kept : (history : List Command) → Stands history (device k.opened).seen → Keeps (running_in device k) (machine_of k.progress (history ++ commands))
   kept history stands =
       let acknowledged : history_by k.board.opened.rules history (joined k.board.list) ≡ history ++ commands =
-      ap (λ (answers : List Answer). history ++ new_commands answers) (sym (law k.board.opened history (joined k.board.list) (begins history stands))) in
-      subst (λ (l : List Command). Keeps seen may_leave k.disk k.progress k.failed (machine_of k.progress l)) acknowledged (keeps history stands)
+      ap (λ (answers : List Answer). history ++ new_commands answers) (sym (law k.board.opened history (joined k.board.list) (facts.begins history stands))) in
+      subst (λ (l : List Command). Keeps (running_in device k) (machine_of k.progress l)) acknowledged (facts.keeps history stands)
 
-  left : (image : List ℕ) → ((history : List Command) → Stands history k.image → StandsFor (record { acknowledged = history ++ commands; flight = flight_of k.progress.commit }) image)
-      → (history : List Command) → Stands history k.image → StandsWith (history ++ commands) (commands_of (in_flight_of k.progress.commit)) image
-  left image stand history stands = stands_with k.progress.commit (history ++ commands) image (stand history stands)
+  left : (image : List ℕ) → (device k.disk).may_leave image → (history : List Command) → Stands history (device k.opened).seen
+      → StandsWith (history ++ commands) (commands_of (in_flight_of k.progress.commit)) image
+  left image may history stands = stands_with k.progress.commit (history ++ commands) image ((kept history stands).images image may)
 
   -- the values that the keeper hands back, with a list that goes on to all prepared batches and all that each report
   -- has entered
-  pub gives_back : {A P : Type 0} (list whole : Seen (List Letter) A P) (reports : List Report) → list.log ≡ k.board.list
-      → published k.board ≡ k.progress.committed → k.board.pending ≡ pending_of k.progress.commit
-      → (k.progress.commit.busy ≡ true → k.progress.commit.answers ≡ judged_in k.progress.committed (letters_of k.progress.commit.answers))
-      → IsTold k.failed k.before (fails k.disk) → list.book ≡ whole.book → IsPrefix (k.board.list ++ k.board.pending) whole.log
-      → All (λ r. r.viewer.book ≡ whole.book) reports → All (λ r. IsPrefix r.viewer.list whole.log) reports
-      → GivesBack seen may_leave fails k.image k.before k.board.opened k.disk k.progress.committed k.failed (in_flight_of k.progress.commit) list whole reports
-  gives_back list whole reports is shown prepared judged told book begins' followed entered = record {
-    leaves = rw is (record {
+  pub gives_back : {closing : Closing D} {reports : List Report} → closing.disk ≡ k.disk → closing.auction ≡ k.progress.committed → closing.has_failed ≡ k.failed
+      → closing.in_flight ≡ in_flight_of k.progress.commit → closing.published.log ≡ k.board.list
+      → closing.published.book ≡ closing.whole.book → IsPrefix (k.board.list ++ k.board.pending) closing.whole.log
+      → All (λ r. r.viewer.book ≡ closing.whole.book) reports → All (λ r. IsPrefix r.viewer.list closing.whole.log) reports
+      → GivesBack device (device k.opened) k.board.opened closing reports
+  gives_back disk auction failed flight is book begins followed entered = record {
+    leaves = rw (disk, auction, flight, is) (record {
       shows = λ history stands. (kept history stands).shows;
-      reads = left (seen k.disk) (λ history stands. (kept history stands).images (seen k.disk) (stays k.disk));
-      images = λ history stands image may. left image (λ past its. (kept past its).images image may) history stands;
+      reads = left (device k.disk).seen (device k.disk).seen_may_stay;
+      images = λ history stands image may. left image may history stands;
     });
     listed = record {
-      leads = rw is (sym shown);
-      judged = λ answers flies. judged_flight k.progress.commit k.progress.committed answers judged flies;
+      leads = rw (auction, is) (sym facts.shown);
+      judged = rw (auction, flight) (λ answers flies. judged_flight k.progress.commit k.progress.committed answers facts.judged flies);
       book = book;
-      begins = rw (is, same_batch k.progress.commit, sym prepared) begins';
+      begins = rw (is, flight, same_batch k.progress.commit, sym facts.prepared) begins;
       followed = followed;
       entered = entered;
     };
-    told = told;
+    told = rw (failed, disk) facts.told;
   }
+
+-- the same of a device that gave the same bytes, with as many failed calls
+pub gives_for : {D : Type 0} {device : D → Device} {opened other : Device} {before : AuctionValue} {closing : Closing D} {reports : List Report} → opened.seen ≡ other.seen
+    → opened.failures ≡ other.failures → GivesBack device opened before closing reports → GivesBack device other before closing reports
+gives_for seen failures back =
+    record { leaves = rw (sym seen) back.leaves; listed = back.listed; told = record { fails = rw (sym failures) back.told.fails; works = rw (sym failures) back.told.works } }

@@ -76,9 +76,9 @@ impl<D: Disk + Drop, W: Wait + Drop, J: Naming> House<D, W, J> {
         // All reports show the committed auction and have one history. Its commands are those of the newly accepted
         // answers, each once. The device keeps its opened history and then this one. If a call of it failed, it may
         // keep the batch in flight, too, and nothing else.
-        ensures closed { IfOk result (λ closing. Closed D.seen D.may_leave D.failures J.image J.failures self.opened closing reports.new) }
+        ensures closed { IfOk result (λ closing. Closed D.device J.device self.opened closing reports.new) }
         // If it is refused with 96, too, the device keeps its opened history, and then the commands committed since.
-        ensures unsettled { IfErr result (λ fault. Unsettled D.seen D.may_leave D.failures J.image J.failures self.opened fault reports.new) }
+        ensures unsettled { IfErr result (λ fault. Unsettled D.device J.device self.opened fault reports.new) }
         // The list that is handed back is the house's.
         ensures list { MatchResult result (λ closing. closing.whole.book ≡ self.book) (λ fault. fault.left.whole.book ≡ self.book) }
     {
@@ -96,7 +96,7 @@ impl<D: Disk + Drop, W: Wait + Drop, J: Naming> House<D, W, J> {
 /// Takes a keeper apart at its end. The list goes on to all batches that these reports have entered.
 fn leave<D: Disk + Drop, W: Wait + Drop>(keeper: Keeper<D, W>, reports: &[Report]) -> Closing<D>
     requires { All (λ r. r.viewer.book ≡ keeper.board.book) reports.now }
-    ensures back { GivesBack D.seen D.may_leave D.failures keeper.image keeper.before keeper.board.opened result.disk result.auction result.has_failed result.in_flight result.published result.whole reports.now }
+    ensures back { GivesBack D.device (D.device keeper.opened) keeper.board.opened result reports.now }
     ensures list { (result.published.log ≡ keeper.board.list) × (result.whole.book ≡ keeper.board.book) }
     ensures same { (result.auction ≡ keeper.progress.committed) × (result.has_failed ≡ keeper.failed) × (result.in_flight ≡ in_flight_of keeper.progress.commit) }
 {
@@ -133,7 +133,8 @@ fn settle<D: Disk + Drop, W: Wait + Drop>(
     ensures rest { OnOk result (keeper.now.failed ≡ false → in_flight_of keeper.now.progress.commit ≡ None) }
     ensures agree { OnOk result (Agree eye.now.opened keeper.now.progress.committed keeper.now.board.list reports.new) }
     ensures counts { IfErr result (AreCounts eye.now.opened keeper.now.progress.committed keeper.now.board.list reports.new) }
-    ensures only { IfErr result (λ counts. (keeper.now.failed ≡ false → in_flight_of keeper.now.progress.commit ≡ None) → All (λ r. auction_of r.viewer ≡ keeper.now.progress.committed) reports.new → counts.accepted ≢ counts.committed) }
+    ensures only { IfErr result (λ counts. (keeper.now.failed ≡ false → in_flight_of keeper.now.progress.commit ≡ None)
+        → All (λ r. auction_of r.viewer ≡ keeper.now.progress.committed) reports.new → counts.accepted ≢ counts.committed) }
 {
     keeper.facts();
     let opened = eye.auction().count();

@@ -1,5 +1,5 @@
 //! The worker that commits letters.
-ghost use Rattle.std.specs.Prelude.{◌≡◌, ℕ, ◌<◌, ◌≤◌, ◌++◌, ◌∷◌, [], List, All, length, vec_len, true};
+ghost use Rattle.std.specs.Prelude.{◌≡◌, ℕ, ◌<◌, ◌≤◌, [], List, All, length, vec_len, true};
 ghost use Rattle.rtrb.specs.Ring.{sent, received};
 ghost use Rattle.hpb_rules.specs.declared.command.Command.{Command};
 ghost use Rattle.hpb_rules.specs.declared.letter.Letter.{Letter};
@@ -37,6 +37,15 @@ const LOOKS: u32 = 100;
 /// work.
 const FEW_LOOKS: u32 = 20;
 
+/// The values that the committer works with.
+#[derive(Drop)]
+struct Work {
+    /// Its side of the rings.
+    intake: Intake<Halt>,
+    /// Its front of the list.
+    front: Front,
+}
+
 /// The result of a turn of the committer.
 #[derive(Drop)]
 enum AfterTurn {
@@ -71,30 +80,29 @@ pub fn committer<D: Disk + Drop, W: Wait + Drop, J: Naming, G: Gate, R: Wait>(
 ) -> Settled
     ensures { IsSettled J.eye result }
 {
-    let Incoming {
-        mut intake,
-        mut front,
-        ..
-    } = incoming;
+    let Incoming { intake, front, .. } = incoming;
+    let mut work = Work { intake, front };
     let mut held = Letters::new();
     let mut awaited = 0;
     for _ in rt.forever() {
         if held.len() == 0 {
-            await_letters(&mut intake, awaited);
+            await_letters(&mut work.intake, awaited);
         }
-        match turn(rt, house, &mut intake, gate, held, &mut front) {
+        match turn(rt, house, &mut work, gate, held) {
             AfterTurn::Free { expected } => {
                 held = Letters::new();
                 awaited = expected;
             }
             AfterTurn::Held(letters) => held = letters,
             AfterTurn::Halted(halt) => {
+                let Work { mut intake, front } = work;
                 intake.halt(halt);
                 drain(rt, house, &mut intake, gate);
                 house.dismiss(rt, Over::of(&intake));
                 return Settled { intake, front };
             }
             AfterTurn::Ended => {
+                let Work { intake, front } = work;
                 house.dismiss(rt, Over::of(&intake));
                 return Settled { intake, front };
             }
@@ -105,7 +113,8 @@ pub fn committer<D: Disk + Drop, W: Wait + Drop, J: Naming, G: Gate, R: Wait>(
 
 /// Looks for letters until as many wait as are expected, or until it has looked in vain often enough.
 fn await_letters(intake: &mut Intake<Halt>, expected: usize)
-    ensures same { (gathered intake.new.rings.items ≡ gathered intake.old.rings.items) × (halts intake.new.rings.items ≡ halts intake.old.rings.items) × (vec_len intake.new.rings ≡ vec_len intake.old.rings) }
+    ensures same { (gathered intake.new.rings.items ≡ gathered intake.old.rings.items)
+        × (halts intake.new.rings.items ≡ halts intake.old.rings.items) × (vec_len intake.new.rings ≡ vec_len intake.old.rings) }
 {
     let mut most = 0;
     let mut left = LOOKS;
@@ -127,27 +136,26 @@ fn await_letters(intake: &mut Intake<Halt>, expected: usize)
 fn turn<D: Disk + Drop, W: Wait + Drop, J: Naming, G: Gate, R: Wait>(
     rt: &R,
     house: &House<D, W, J>,
-    intake: &mut Intake<Halt>,
+    work: &mut Work,
     gate: &G,
     held: Letters,
-    front: &mut Front,
 ) -> AfterTurn
-    requires book { front.old.trail.book ≡ J.eye.book }
-    requires owed { IsOwed (gathered intake.old.rings.items) front.old.trail.log held }
-    ensures rings { vec_len intake.new.rings ≡ vec_len intake.old.rings }
-    ensures book { front.new.trail.book ≡ J.eye.book }
-    ensures comes { Comes result (gathered intake.new.rings.items) front.new.trail.log }
-    ensures ended { result ≡ End → All (λ r. ends (received r.letters) ≡ true) intake.new.rings.items }
+    requires book { work.old.front.trail.book ≡ J.eye.book }
+    requires owed { IsOwed (gathered work.old.intake.rings.items) work.old.front.trail.log held }
+    ensures rings { vec_len work.new.intake.rings ≡ vec_len work.old.intake.rings }
+    ensures book { work.new.front.trail.book ≡ J.eye.book }
+    ensures comes { Comes result (gathered work.new.intake.rings.items) work.new.front.trail.log }
+    ensures ended { result ≡ End → All (λ r. ends (received r.letters) ≡ true) work.new.intake.rings.items }
 {
-    let letters = held_or_waiting(rt, intake, gate, held);
+    let letters = held_or_waiting(rt, &mut work.intake, gate, held);
     if letters.len() == 0 {
-        return idle(rt, house, intake);
+        return idle(rt, house, &work.intake);
     }
-    match house.offer(rt, letters, front) {
-        Offered::InFlight => commit(rt, house, intake, gate),
+    match house.offer(rt, letters, &mut work.front) {
+        Offered::InFlight => commit(rt, house, &mut work.intake, gate),
         Offered::Answered(answers) => {
-            let after = expecting(intake, &answers);
-            wake_answered(intake, &answers);
+            let after = expecting(&mut work.intake, &answers);
+            wake_answered(&work.intake, &answers);
             after
         }
         Offered::Back(letters, reason) => hold(rt, house, letters, reason),

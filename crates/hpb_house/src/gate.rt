@@ -31,6 +31,15 @@ impl<G: Gate> Gate for &G {
     }
 }
 
+/// The gates of the two workers, each with a type of its own.
+#[derive(Drop)]
+pub struct Gates<C, G> {
+    /// The committer's.
+    pub commits: C,
+    /// The checkpointer's.
+    pub checkpoints: G,
+}
+
 /// A gate that lets every worker pass.
 #[derive(Clone, Copy, Debug)]
 pub struct OpenGate;

@@ -56,7 +56,7 @@ impl<D: Disk + Drop, W: Wait + Drop> Started<D, W> {
     /// Gives the house its name, which no other house has.
     pub fn named<J: Naming>(self) -> Ready<D, W, J>
         requires eye { (self.eye ≡ J.eye) × (self.eye.list ≡ []) }
-        requires own { IsOf J.eye J.image J.failures self.keeper }
+        requires own { IsOf D.device J.eye J.device self.keeper }
         requires clients { self.clients.items ≡ J.clients }
         requires begun { AreBegun self.eye self.clients.items self.eye.seats }
         ensures house { result.house ≡ self.eye }

@@ -1,6 +1,7 @@
 //! Starting a house.
 ghost use Rattle.std.specs.Prelude.{◌≡◌, ◌≤◌, ◌<◌, false, [], All, IfOk, IfErr, vec_len};
 ghost use Rattle.hpb_rules.specs.Machine.{at_rest};
+ghost use Rattle.hpb_engine.specs.Engines.{running_of};
 ghost use Rattle.hpb_engine.specs.Starts.{IsStarted};
 ghost use Rattle.rtrb.specs.Ring.{received};
 ghost use Rattle.hpb_house.specs.Keepers.{KeepsEach};
@@ -233,8 +234,7 @@ impl<D: Disk + Drop, W: Wait + Drop> House<D, W, Brand> {
         // Nothing has come or is on the list yet.
         ensures fresh { IfOk result (λ made. All (λ ring. received ring.letters ≡ []) made.intake.rings.items) }
         ensures empty { IfOk result (λ made. made.front.trail.log ≡ []) }
-        ensures image { IfOk result (λ made. made.keeper.image ≡ D.seen opened.disk) }
-        ensures before { IfOk result (λ made. made.keeper.before ≡ D.failures opened.disk) }
+        ensures device { IfOk result (λ made. made.keeper.opened ≡ opened.disk) }
         ensures back { IfErr result (λ fault. (fault.opened.disk ≡ opened.disk) × (fault.opened.plan ≡ opened.plan)) }
     {
         let setting = match make_setting(rt, alloc, opened.auction(), sessions) {
@@ -263,7 +263,7 @@ fn assemble<D: Disk + Drop, W: Wait + Drop>(
     opened: Snapshot<Opened<D>>,
 ) -> Started<D, W>
     requires started { IsStarted engine.progress opened.value.plan }
-    requires keeps { KeepsEach D.seen D.may_leave (D.seen opened.value.disk) engine.disk engine.progress engine.failed at_rest }
+    requires keeps { KeepsEach (D.device opened.value.disk) (running_of engine) at_rest }
     requires works { (engine.failed ≡ false) × (engine.disk ≡ opened.value.disk) }
     requires publisher { (setting.publisher.opened ≡ opened.value.plan.auction) × (setting.publisher.seats ≡ sessions) × (setting.publisher.list ≡ []) × (setting.publisher.pending ≡ []) }
     requires eye { IsViewOf setting.publisher setting.eye }
@@ -271,8 +271,7 @@ fn assemble<D: Disk + Drop, W: Wait + Drop>(
     requires fresh { All (λ ring. received ring.letters ≡ []) setting.rings.items }
     ensures eye { result.eye ≡ setting.eye }
     ensures board { result.keeper.board ≡ setting.publisher }
-    ensures image { result.keeper.image ≡ D.seen opened.value.disk }
-    ensures before { result.keeper.before ≡ D.failures opened.value.disk }
+    ensures device { result.keeper.opened ≡ opened.value.disk }
     ensures front { result.front.trail.log ≡ [] }
     ensures intake { result.intake.rings ≡ setting.rings }
     ensures clients { result.clients ≡ setting.clients }

@@ -3,7 +3,7 @@ ghost use Rattle.hpb_house.specs.Committing.{IsSettled};
 
 use crate::checkpointing::checkpointer;
 use crate::committing::committer;
-use crate::gate::Gate;
+use crate::gate::{Gate, Gates};
 use crate::house::House;
 use crate::incoming::{Incoming, Settled, Settles};
 use crate::keeper::Halt;
@@ -39,12 +39,15 @@ impl<J: Naming> Workers<J> {
         rt: &'s R,
         house: &'s House<D, W, J>,
         incoming: Incoming<J>,
-        commits: C,
-        checkpoints: G,
+        gates: Gates<C, G>,
     ) -> Result<Workers<J>, AllocError>
     where
         J: Send + Sync,
     {
+        let Gates {
+            commits,
+            checkpoints,
+        } = gates;
         let commit = move || committer(rt, house, incoming, &commits);
         let committing = scope.spawn_with(Settles::<J>::new(), commit)?;
         let checkpoint = move || checkpointer(rt, house, &checkpoints);

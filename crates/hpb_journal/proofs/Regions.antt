@@ -3,9 +3,10 @@ use Rattle.std.proofs.Common.{◌≡◌, ◌⊎◌, inl, inr, ℕ, ◌+◌, ◌*
 use Rattle.std.proofs.Math.Nat.{mul-le-mul_left}
 use Rattle.std.proofs.lemmas.Bool.{cases_lt}
 use Rattle.hpb_rules.specs.Tree.{Rules}
-use Rattle.hpb_disk.proofs.Regions.{elapses_within}
+use Rattle.hpb_disk.proofs.Runs.{leaves_within}
 use Rattle.hpb_codec.specs.declared.batch.Batch.{Batch}
-use Rattle.hpb_disk.specs.Images.{part, put, Torn, TornFrom, Within, Elapses}
+use Rattle.hpb_disk.specs.Device.{Device, LeavesOnly}
+use Rattle.hpb_disk.specs.Images.{part, put, Torn, TornFrom, Within}
 use Rattle.hpb_disk.specs.Laws.{ElsewhereStays, PutIsRead, PutIsTorn}
 use Rattle.hpb_journal.specs.Changes.{ChangesBody, ChangesGate, TornBody, TornGate}
 use Rattle.hpb_journal.specs.Layouts.{Layout}
@@ -72,12 +73,8 @@ module _ (stride body : ℕ) (fits : body + 16 ≤ stride) (spells : Rules → L
       gate_rest byte old new inside written =
           gate_changes old new (subst (λ (from : ℕ). Torn from 1 old new) there (subst (Torn at 1 old) (sym written) (tears at (byte ∷ []) old (omega (arith, inside)))))
 
-      pub gate_crash : (before after : List ℕ → Type 0) → Within after (TornFrom at 1 before) → Within after (TornGate layout b before)
-      gate_crash before after crash image left = gate_within before image (crash image left)
-
-      pub gate_time : (moment now : ℕ) (past since : ℕ → List ℕ → Type 0) (before : List ℕ → Type 0) → Elapses moment now past since (TornFrom at 1 before)
-          → Elapses moment now past since (TornGate layout b before)
-      gate_time moment now past since before = elapses_within moment now past since (TornFrom at 1 before) (TornGate layout b before) (gate_within before)
+      pub gate_crash : {old new : Device} → LeavesOnly old new (TornFrom at 1 old.may_leave) → LeavesOnly old new (TornGate layout b old.may_leave)
+      gate_crash {old = old} crash = leaves_within (gate_within old.may_leave) crash
 
     module _ (bytes : List ℕ) (there : at ≡ here + 16) (short : length bytes ≤ body) where
       body_within : (images : List ℕ → Type 0) → Within (TornFrom at (length bytes) images) (TornBody layout b images)
@@ -88,12 +85,8 @@ module _ (stride body : ℕ) (fits : body + 16 ≤ stride) (spells : Rules → L
           body_changes (length bytes) short old new (subst (λ (from : ℕ). Torn from (length bytes) old new) there
           (subst (Torn at (length bytes) old) (sym written) (tears at bytes old inside)))
 
-      pub body_crash : (before after : List ℕ → Type 0) → Within after (TornFrom at (length bytes) before) → Within after (TornBody layout b before)
-      body_crash before after crash image left = body_within before image (crash image left)
-
-      pub body_time : (moment now : ℕ) (past since : ℕ → List ℕ → Type 0) (before : List ℕ → Type 0) → Elapses moment now past since (TornFrom at (length bytes) before)
-          → Elapses moment now past since (TornBody layout b before)
-      body_time moment now past since before = elapses_within moment now past since (TornFrom at (length bytes) before) (TornBody layout b before) (body_within before)
+      pub body_crash : {old new : Device} → LeavesOnly old new (TornFrom at (length bytes) old.may_leave) → LeavesOnly old new (TornBody layout b old.may_leave)
+      body_crash {old = old} crash = leaves_within (body_within old.may_leave) crash
 
       pub body_says : (reads : PutIsRead) (old new : List ℕ) → at + length bytes ≤ length old → new ≡ put at bytes old → part (here + 16) (length bytes) new ≡ bytes
       body_says reads old new inside written = sym (ap (λ (from : ℕ). part from (length bytes) new) there) ∙ ap (part at (length bytes)) written ∙ reads at bytes old inside

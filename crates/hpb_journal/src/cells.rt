@@ -2,9 +2,9 @@
 ghost use Rattle.std.specs.Prelude.{◌≡◌, ◌+◌, ◌*◌, ◌%◌, ◌≤◌, ◌<◌, [], ◌∷◌, length, OnOk};
 ghost use Rattle.hpb_codec.specs.Cells.{cells_of, BeginsCells};
 ghost use Rattle.hpb_codec.specs.declared.cells.TheConstants.{CELLS_SIZE};
-ghost use Rattle.hpb_disk.specs.Asked.{Asks};
 ghost use Rattle.hpb_disk.specs.Asked.Asked.{writes};
-ghost use Rattle.hpb_disk.specs.Images.{part, put, CountsFailure, Elapses, TornFrom, Within};
+ghost use Rattle.hpb_disk.specs.Device.{LeavesOnly, MakesCall};
+ghost use Rattle.hpb_disk.specs.Images.{part, put, TornFrom};
 ghost use Rattle.hpb_journal.specs.Frames.{MayBeKept};
 ghost use Rattle.hpb_rules.specs.Tree.{Rules};
 ghost use Rattle.hpb_codec.specs.declared.layout.TheConstants.{LEAST_CELL_FRAMES, CELL_FRAMES_STEP, MOST_FRAMES};
@@ -55,19 +55,17 @@ impl CellFrames {
 /// Writes the cells of a batch from an offset of a device on, in one write: 496, 1,008 or 1,520 bytes, never more than
 /// the batch takes.
 pub fn write_cells<D: Disk>(disk: &mut D, at: usize, batch: &Batch) -> Result<(), DiskFailed>
-    requires room { at + CELLS_SIZE ≤ length (D.seen disk.old) }
-    ensures written { OnOk result (D.seen disk.new ≡ put at (cells_of batch.now) (D.seen disk.old)) }
+    requires room { at + CELLS_SIZE ≤ length (D.device disk.old).seen }
+    ensures written { OnOk result ((D.device disk.new).seen ≡ put at (cells_of batch.now) (D.device disk.old).seen) }
     // A frame's body that begins there then begins with the batch, under each definition under which it may be kept.
-    ensures says { (rules : Rules) → MayBeKept rules batch.now → OnOk result (BeginsCells rules (part at CELLS_SIZE (D.seen disk.new)) batch.now) }
-    ensures size { length (D.seen disk.new) ≡ length (D.seen disk.old) }
+    ensures says { (rules : Rules) → MayBeKept rules batch.now → OnOk result (BeginsCells rules (part at CELLS_SIZE (D.device disk.new).seen) batch.now) }
+    ensures size { length (D.device disk.new).seen ≡ length (D.device disk.old).seen }
     ensures few { length (cells_of batch.now) ≤ CELLS_SIZE }
     // A crash from then on, or within the call, may leave any bytes in the cells that the batch takes, and elsewhere
     // the same as before.
-    ensures crash { Within (D.may_leave disk.new) (TornFrom at (length (cells_of batch.now)) (D.may_leave disk.old)) }
-    ensures time { Elapses (D.moment disk.old) (D.moment disk.new) (D.left_since disk.old) (D.left_since disk.new)
-        (TornFrom at (length (cells_of batch.now)) (D.may_leave disk.old)) }
-    ensures cause { CountsFailure result (D.failures disk.old) (D.failures disk.new) }
-    ensures asked { Asks result (writes at (cells_of batch.now) ∷ []) (D.asked disk.old) (D.asked disk.new) }
+    ensures crash { LeavesOnly (D.device disk.old) (D.device disk.new)
+        (TornFrom at (length (cells_of batch.now)) (D.device disk.old).may_leave) }
+    ensures call { MakesCall result (writes at (cells_of batch.now) ∷ []) (D.device disk.old) (D.device disk.new) }
 {
     let mut body = [0; CELLS_SIZE];
     let size = encode_cells(batch, &mut body);

@@ -6,11 +6,11 @@ use Rattle.hpb_define.specs.declared.fault.DefineFault.{DefineFault}
 use Rattle.hpb_disk.specs.declared.fault.FileFault.{FileFault}
 use Rattle.hpb_recover.specs.declared.cause.Cause.{Cause}
 use Rattle.hpb_recover.specs.declared.cause.Cause.TheVariants as opening
-use Rattle.hpb_words.specs.declared.job_fault.JobFault.{JobFault}
-use Rattle.hpb_words.specs.declared.job_fault.JobFault.TheVariants as faults
+use Rattle.hpb_messages.specs.declared.job_fault.JobFault.{JobFault}
+use Rattle.hpb_messages.specs.declared.job_fault.JobFault.TheVariants as faults
 use Rattle.hpb_program.specs.Jobs.{IsOfFile, StopsReading}
-use Rattle.hpb_words.specs.Faults.{made_by, made_of_definition, made_of_file, made_of_opening}
-use Rattle.hpb_words.specs.Telling.{IsCutBy}
+use Rattle.hpb_messages.specs.Faults.{made_by, made_of_definition, made_of_file, made_of_opening}
+use Rattle.hpb_messages.specs.Telling.{IsCutBy}
 use Rattle.hpb_program.proofs.Files.{of_each_file, of_each_made}
 
 module _ (cut : Bool) where

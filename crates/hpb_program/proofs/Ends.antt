@@ -13,7 +13,7 @@ use Rattle.hpb_define.specs.declared.fault.DefineCause.{DefineCause}
 use Rattle.hpb_define.specs.declared.fault.DefineCause.TheVariants as defining
 use Rattle.hpb_define.specs.declared.fault.DefineFault.{DefineFault}
 use Rattle.hpb_define.specs.Text.{Answers}
-use Rattle.hpb_disk.specs.FileDisks.{file_left}
+use Rattle.hpb_disk.specs.FileDisks.{file_device}
 use Rattle.hpb_disk.specs.Images.{Within}
 use Rattle.hpb_disk.specs.declared.file.FileDisk.{FileDisk}
 use Rattle.hpb_disk.specs.declared.fault.FileFault.{FileFault}
@@ -22,12 +22,13 @@ use Rattle.hpb_format.specs.declared.fault.FormatCause.{FormatCause}
 use Rattle.hpb_format.specs.declared.fault.FormatCause.TheVariants as formatting
 use Rattle.hpb_server.specs.Streams.{Streams}
 use Rattle.hpb_server.specs.Writing.{Puts}
-use Rattle.hpb_words.specs.declared.job_fault.JobFault.{JobFault}
-use Rattle.hpb_words.specs.declared.job_fault.JobFault.TheVariants as faults
+use Rattle.hpb_messages.specs.declared.job_fault.JobFault.{JobFault}
+use Rattle.hpb_messages.specs.declared.job_fault.JobFault.TheVariants as faults
+use Rattle.hpb_program.specs.ConsoleValue.{ConsoleValue}
 use Rattle.hpb_program.specs.Jobs.{check_text, line_of_journal, nodes_text, Formats, GivesText, IsDefined, IsFormatted, IsKept, IsOfFile, IsRefused, MayFormat, ShowsKept}
-use Rattle.hpb_words.specs.Faults.{made_by, made_of_definition, made_of_file, made_of_formatting}
+use Rattle.hpb_messages.specs.Faults.{made_by, made_of_definition, made_of_file, made_of_formatting}
 use Rattle.hpb_program.specs.Program.{TellsEnd, TellsFault}
-use Rattle.hpb_words.specs.Telling.{IsCutBy}
+use Rattle.hpb_messages.specs.Telling.{IsCutBy}
 use Rattle.hpb_server.proofs.Fronts.{put_front}
 use Rattle.hpb_program.proofs.Files.{of_each_file, of_each_made}
 
@@ -52,9 +53,9 @@ shown_short image value a b text e kept is put =
     (value, kept, (front.0, front.1, subst (IsFront front.0) is front.2))
 
 -- the fault of a job is reported, and an output that failed gets nothing more
-module _ (before cut : Bool) (old new errors_old errors_new : Option (List ℕ)) (status : ℕ) (kept : before ≡ true → (cut ≡ true) × Keeps old new) where
-  pub told_end : (fault : JobFault) → IsCutBy before (Err fault) → TellsFault cut old new errors_old errors_new fault status → TellsEnd cut old new errors_old errors_new (Err fault) status
-  told_end faults.Writer by told = let keeps = kept by in (keeps.0, told.0, told.1, told.2)
+module _ (before after : ConsoleValue) (status : ℕ) (kept : before.is_cut ≡ true → (after.is_cut ≡ true) × Keeps before.streams.contents after.streams.contents) where
+  pub told_end : (fault : JobFault) → IsCutBy before.is_cut (Err fault) → TellsFault before after fault status → TellsEnd before after (Err fault) status
+  told_end faults.Writer by told = let keeps = kept by in (keeps.0, (told.0, keeps.1), told.2, told.3)
   told_end faults.Memory by told = told
   told_end faults.Reader by told = told
   told_end (faults.Definition f) by told = told
@@ -103,7 +104,7 @@ module _ (journal : JournalShape) (before after : Streams) (text : List ℕ) (gi
       may = (defined before.remaining after.remaining text rules gives answers, journal_is)
 
 module _ (journal : JournalShape) (before after : Streams) (text line : List ℕ) (rules : Rules) (gives : GivesText before.remaining after.remaining text) (answers : Answers text (Ok rules)) (shape : IsShape journal)
-    (disk : FileDisk) (new : Within (file_left disk) (IsNew rules journal)) (is : line ≡ line_of_journal journal) where
+    (disk : FileDisk) (new : Within (file_device disk).may_leave (IsNew rules journal)) (is : line ≡ line_of_journal journal) where
   formatted : IsFormatted journal before after
   unfolding defined
   formatted = record { may = (defined before.remaining after.remaining text rules gives answers, shape); disk = disk; new = new }

@@ -3,10 +3,10 @@ use Rattle.std.proofs.Common.{◌≡◌, sym, subst}
 use Rattle.hpb_disk.specs.declared.fault.FileFault.{FileFault}
 use Rattle.hpb_disk.specs.declared.fault.FileFault.TheVariants as files
 use Rattle.hpb_format.specs.declared.fault.FormatCause.{FormatCause}
-use Rattle.hpb_words.specs.declared.job_fault.JobFault.{JobFault}
-use Rattle.hpb_words.specs.declared.job_fault.JobFault.TheVariants as faults
+use Rattle.hpb_messages.specs.declared.job_fault.JobFault.{JobFault}
+use Rattle.hpb_messages.specs.declared.job_fault.JobFault.TheVariants as faults
 use Rattle.hpb_program.specs.Jobs.{IsOfFile}
-use Rattle.hpb_words.specs.Faults.{made_of_file}
+use Rattle.hpb_messages.specs.Faults.{made_of_file}
 
 -- a fact about both holds of the fault that comes from a file's fault
 pub of_each_file : (Is : JobFault → Type 0) → Is faults.Memory → ((fault : FileFault) → Is (faults.File fault)) → (fault : FileFault) (made : JobFault) → made ≡ made_of_file fault → Is made

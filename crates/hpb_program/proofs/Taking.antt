@@ -4,7 +4,7 @@ use Rattle.std.specs.Io.KnownBytes.{Consumes}
 use Rattle.std.proofs.KnownBytes.{Consumes-nil, Consumes-trans}
 use Rattle.hpb_rules.proofs.Lists.{append_nil}
 use Rattle.hpb_program.specs.declared.formatting.TheConstants.{KEPT_BYTES}
-use Rattle.hpb_words.specs.declared.job_fault.JobFault.{JobFault}
+use Rattle.hpb_messages.specs.declared.job_fault.JobFault.{JobFault}
 use Rattle.hpb_program.specs.Jobs.{GivesText, ReadsPart, StopsPart, StopsReading}
 
 -- These bytes were read so far.

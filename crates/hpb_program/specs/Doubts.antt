@@ -1,7 +1,7 @@
 -- The warning if a file opens, but there are doubts about it: signs of damage that no honest file shows.
 use Rattle.std.specs.Prelude.{◌≡◌, ◌⊎◌, ℕ, List, [], ◌++◌, Option, None, Some, Result, Ok, Err, codes, decimal}
 use Rattle.std.specs.Io.KnownBytes.{Keeps}
-use Rattle.hpb_disk.specs.FileDisks.{file_seen}
+use Rattle.hpb_disk.specs.FileDisks.{file_device}
 use Rattle.hpb_journal.specs.declared.frame.Frame.{Frame}
 use Rattle.hpb_journal.specs.declared.frame.Frame.TheVariants as frames
 use Rattle.hpb_recover.specs.Doubts.{IsFrameTold, IsSlotTold}
@@ -9,8 +9,8 @@ use Rattle.hpb_recover.specs.Plans.{IsPlan}
 use Rattle.hpb_recover.specs.declared.cause.Cause.TheVariants as opening
 use Rattle.hpb_recover.specs.declared.doubts.Later.{Later}
 use Rattle.hpb_recover.specs.declared.plan.Plan.{Plan}
-use Rattle.hpb_words.specs.declared.job_fault.JobFault.{JobFault}
-use Rattle.hpb_words.specs.declared.job_fault.JobFault.TheVariants as faults
+use Rattle.hpb_messages.specs.declared.job_fault.JobFault.{JobFault}
+use Rattle.hpb_messages.specs.declared.job_fault.JobFault.TheVariants as faults
 use Rattle.hpb_program.specs.declared.serving.FileEnd.{FileEnd}
 use Rattle.hpb_server.specs.Telling.{Says}
 
@@ -75,7 +75,7 @@ TellsIll errors_old errors_new fault = (image : List ℕ) × TellsStopped image 
 
 -- If a file was served, the doubts about its disk were reported when it was opened.
 abbrev pub TellsServing : (errors_old errors_new : Option (List ℕ)) → Result FileEnd JobFault → Type 0
-TellsServing errors_old errors_new (Ok end) = TellsImage (file_seen end.opened.value) errors_old errors_new
+TellsServing errors_old errors_new (Ok end) = TellsImage (file_device end.opened.value).seen errors_old errors_new
 TellsServing errors_old errors_new (Err fault) = TellsIll errors_old errors_new fault
 
 -- The machine failed: memory, or the device.

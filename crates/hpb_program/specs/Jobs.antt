@@ -10,7 +10,7 @@ use Rattle.hpb_rules.specs.Tree.{Rules}
 use Rattle.hpb_rules.specs.ValueText.{shown_in, node_shown_in}
 use Rattle.hpb_define.specs.declared.fault.DefineFault.{DefineFault}
 use Rattle.hpb_define.specs.Text.{Answers}
-use Rattle.hpb_disk.specs.FileDisks.{file_left}
+use Rattle.hpb_disk.specs.FileDisks.{file_device}
 use Rattle.hpb_disk.specs.Images.{Within}
 use Rattle.hpb_disk.specs.declared.file.FileDisk.{FileDisk}
 use Rattle.hpb_format.specs.Outcomes.{IsNew}
@@ -21,10 +21,11 @@ use Rattle.hpb_codec.specs.Layouts.{IsShape}
 use Rattle.hpb_codec.specs.declared.layout.JournalShape.{JournalShape}
 use Rattle.hpb_recover.specs.declared.cause.Cause.TheVariants as opening
 use Rattle.hpb_program.specs.declared.formatting.TheConstants.{KEPT_BYTES}
-use Rattle.hpb_words.specs.Faults.{made_of_definition}
-use Rattle.hpb_words.specs.Pages.{pages_of}
-use Rattle.hpb_words.specs.declared.job_fault.JobFault.{JobFault}
-use Rattle.hpb_words.specs.declared.job_fault.JobFault.TheVariants as faults
+use Rattle.hpb_messages.specs.Faults.{made_of_definition}
+use Rattle.hpb_messages.specs.Pages.{pages_of}
+use Rattle.hpb_messages.specs.declared.job_fault.JobFault.{JobFault}
+use Rattle.hpb_messages.specs.declared.job_fault.JobFault.TheVariants as faults
+use Rattle.hpb_program.specs.ConsoleValue.{ConsoleValue}
 use Rattle.hpb_program.specs.Doubts.{TellsIll, TellsImage}
 use Rattle.hpb_serve.specs.declared.fault.ServeFault.{ServeFault}
 use Rattle.hpb_serve.specs.declared.fault.ServeFault.TheVariants as serving
@@ -76,10 +77,10 @@ ShowsKept image old new (Err (faults.Open (opening.Flawed flaw))) = Keeps old ne
 ShowsKept image old new (Err fault) = Keeps old new × ((fault ≡ faults.Memory) ⊎ (fault ≡ faults.Open opening.Device))
 
 -- The same for a file. Its bytes are known only as those about which doubts were reported. Or nothing of it was shown.
-abbrev pub Checks : (old new errors_old errors_new : Option (List ℕ)) → Result ⊤ JobFault → Type 0
-Checks old new errors_old errors_new (Ok done) = (image : List ℕ) × ShowsKept image old new (Ok done) × TellsImage image errors_old errors_new
-Checks old new errors_old errors_new (Err faults.Writer) = (image : List ℕ) × ShowsKept image old new (Err faults.Writer) × TellsImage image errors_old errors_new
-Checks old new errors_old errors_new (Err fault) = Keeps old new × TellsIll errors_old errors_new fault
+abbrev pub Checks : (before after : ConsoleValue) → Result ⊤ JobFault → Type 0
+Checks before after (Ok done) = (image : List ℕ) × ShowsKept image before.streams.contents after.streams.contents (Ok done) × TellsImage image before.errors after.errors
+Checks before after (Err faults.Writer) = (image : List ℕ) × ShowsKept image before.streams.contents after.streams.contents (Err faults.Writer) × TellsImage image before.errors after.errors
+Checks before after (Err fault) = Keeps before.streams.contents after.streams.contents × TellsIll before.errors after.errors fault
 
 -- Some bytes were read, at most one more than a definition may have.
 abbrev pub ReadsSome : (old new : Option (List ℕ)) → Type 0
@@ -133,7 +134,7 @@ module _ (journal : JournalShape) (before after : Streams) where
   pub record IsFormatted : Type 0 where
     pub may : MayFormat
     pub disk : FileDisk
-    pub new : Within (file_left disk) (IsNew may.0.rules journal)
+    pub new : Within (file_device disk).may_leave (IsNew may.0.rules journal)
 
   -- A file was formatted and its line was written. Or the writer failed. Or nothing was written, and the fault is the
   -- first that was found.

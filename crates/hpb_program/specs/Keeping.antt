@@ -2,28 +2,33 @@
 use Rattle.std.specs.Prelude.{◌≡◌, ◌⊎◌, ℕ, Bool, false, List, Option, Result, Ok, Err, ⊤}
 use Rattle.hpb_rules.specs.declared.command.Command.{Command}
 use Rattle.hpb_disk.specs.declared.file.FileDisk.{FileDisk}
-use Rattle.hpb_disk.specs.FileDisks.{file_failures, file_left, file_seen}
+use Rattle.hpb_disk.specs.Device.{Device}
+use Rattle.hpb_disk.specs.FileDisks.{file_device}
 use Rattle.hpb_recover.specs.Flaws.{HasFlaw}
 use Rattle.hpb_recover.specs.Readings.{last_value, Found, Reads}
 use Rattle.hpb_recover.specs.Standing.{Stands}
 use Rattle.hpb_engine.specs.declared.progress.Progress.{Progress}
+use Rattle.hpb_engine.specs.Keeping.{Running}
 use Rattle.hpb_recover.specs.declared.cause.Cause.TheVariants as opening
+use Rattle.hpb_run.specs.Device.{at_start}
 use Rattle.hpb_run.specs.Running.{ServesFrom}
 use Rattle.hpb_server.specs.declared.fault.SessionFault.{SessionFault}
 use Rattle.hpb_server.specs.Streams.{AreKept, Streams}
 use Rattle.hpb_server.specs.Telling.{ExplainsAt}
-use Rattle.hpb_words.specs.declared.job_fault.JobFault.{JobFault}
-use Rattle.hpb_words.specs.declared.job_fault.JobFault.TheVariants as faults
-use Rattle.hpb_words.specs.declared.run_end.RunEnd.{RunEnd}
+use Rattle.hpb_messages.specs.declared.job_fault.JobFault.{JobFault}
+use Rattle.hpb_messages.specs.declared.job_fault.JobFault.TheVariants as faults
+use Rattle.hpb_messages.specs.declared.run_end.RunEnd.{RunEnd}
+use Rattle.hpb_program.specs.ConsoleValue.{ConsoleValue}
 use Rattle.hpb_program.specs.Doubts.{TellsIll, TellsImage, TellsStopped}
 use Rattle.hpb_program.specs.Jobs.{IsKept}
 
 -- The auction that is read on a device was run: the lines were answered by each history for which the device stood.
-pub record IsRun {D : Type 0} (seen : D → List ℕ) (may_leave : D → List ℕ → Type 0) (failures : D → ℕ) (opened : D) (before after : Streams) (disk : D) (progress : Progress) (failed : Bool) (end : Result ⊤ SessionFault) : Type 0 where
+-- An engine then runs so.
+pub record IsRun (opened : Device) (before after : Streams) (run : Running) (end : Result ⊤ SessionFault) : Type 0 where
   pub found : Found
-  pub reads : Reads found (seen opened)
-  pub shows : IsKept (seen opened) (last_value found)
-  pub serves : (history : List Command) → Stands history (seen opened) → ServesFrom seen may_leave failures before after (last_value found).rules history (failures opened) false disk progress failed end
+  pub reads : Reads found opened.seen
+  pub shows : IsKept opened.seen (last_value found)
+  pub serves : (history : List Command) → Stands history opened.seen → ServesFrom before after (at_start (last_value found).rules history opened.failures false) run end
 
 -- A device was not opened: it has the reported flaw, or the machine failed.
 abbrev pub IsNotOpened : List ℕ → JobFault → Type 0
@@ -45,8 +50,9 @@ TellsRunning is_terminal image errors_old errors_new (Err fault) = TellsStopped 
 
 -- An auction was run by the contents of a file, about which only the doubts are known, since they were reported before.
 -- Or the file was not opened, and nothing was read or written.
-abbrev pub RunsFile : (is_terminal : Bool) (before after : Streams) (errors_old errors_new : Option (List ℕ)) → Result RunEnd JobFault → Type 0
-RunsFile is_terminal before after errors_old errors_new (Ok end) =
-    (opened : FileDisk) × (disk : FileDisk) × (progress : Progress) × IsRun file_seen file_left file_failures opened before after disk progress end.failed end.end
-    × TellsRunning is_terminal (file_seen opened) errors_old errors_new (Ok end)
-RunsFile is_terminal before after errors_old errors_new (Err fault) = IsOfOpening fault × AreKept before after × TellsIll errors_old errors_new fault
+abbrev pub RunsFile : (before after : ConsoleValue) → Result RunEnd JobFault → Type 0
+RunsFile before after (Ok end) =
+    (opened : FileDisk) × (disk : FileDisk) × (progress : Progress)
+    × IsRun (file_device opened) before.streams after.streams (record { device = file_device disk; progress = progress; failed = end.failed }) end.end
+    × TellsRunning before.is_terminal (file_device opened).seen before.errors after.errors (Ok end)
+RunsFile before after (Err fault) = IsOfOpening fault × AreKept before.streams after.streams × TellsIll before.errors after.errors fault

@@ -4,3 +4,4 @@ pub mod Doubts
 pub mod Serving
 pub mod Program
 pub mod Limits
+pub mod ConsoleValue

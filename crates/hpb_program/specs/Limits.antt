@@ -4,7 +4,7 @@ use Rattle.hpb_codec.specs.declared.layout.JournalLayout.TheVariants.{Pages, Cel
 use Rattle.hpb_program.specs.declared.formatting.TheConstants.{KEPT_BYTES}
 use Rattle.hpb_program.specs.declared.serving.TheConstants.{CLOSED_BYTES}
 use Rattle.hpb_program.specs.Serving.{closed_line}
-use Rattle.hpb_words.specs.Pages.{pages_of}
+use Rattle.hpb_messages.specs.Pages.{pages_of}
 
 -- Each limit of the code is the one in the documents.
 pub record LimitsAre : Type 0 where

@@ -1,29 +1,31 @@
 -- The program's use of its streams, and its status.
-use Rattle.std.specs.Prelude.{◌≡◌, ℕ, Bool, true, false, List, [], Option, Result, Ok, Err, ⊤, ◌⊎◌, string_bytes}
+use Rattle.std.specs.Prelude.{◌≡◌, ℕ, Bool, true, false, List, [], Option, Result, Ok, Err, ⊤, ◌⊎◌, ◌||◌, string_bytes}
 use Rattle.std.specs.Io.KnownBytes.{Keeps}
 use Rattle.hpb_server.specs.declared.fault.SessionFault.{SessionFault}
 use Rattle.hpb_server.specs.declared.script.ScriptEnd.{ScriptEnd}
 use Rattle.hpb_server.specs.declared.script.ScriptEnd.TheVariants as ends
-use Rattle.hpb_words.specs.declared.status.TheConstants.{WELL, ILL, WRONG_WORDS}
+use Rattle.hpb_words.specs.declared.status.TheConstants.{WELL, ILL}
 use Rattle.hpb_words.specs.declared.words.Job.{Job}
 use Rattle.hpb_words.specs.declared.words.Job.TheVariants.{Script, Format, Check, Run, Serve}
 use Rattle.hpb_words.specs.declared.words.WordsFault.{WordsFault}
 use Rattle.hpb_words.specs.declared.words.WordsFault.TheVariants.{Memory, Refused}
-use Rattle.hpb_words.specs.declared.job_fault.JobFault.{JobFault}
-use Rattle.hpb_words.specs.declared.job_fault.JobFault.TheVariants as faults
-use Rattle.hpb_words.specs.declared.run_end.RunEnd.{RunEnd}
+use Rattle.hpb_messages.specs.declared.job_fault.JobFault.{JobFault}
+use Rattle.hpb_messages.specs.declared.job_fault.JobFault.TheVariants as faults
+use Rattle.hpb_messages.specs.declared.run_end.RunEnd.{RunEnd}
 use Rattle.hpb_program.specs.declared.serving.FileEnd.{FileEnd}
+use Rattle.hpb_program.specs.declared.led.Led.{Led}
+use Rattle.hpb_program.specs.ConsoleValue.{ConsoleValue}
 use Rattle.hpb_program.specs.Doubts.{TellsServing}
 use Rattle.hpb_program.specs.Keeping.{RunsFile}
 use Rattle.hpb_program.specs.Serving.{ServesFile}
-use Rattle.hpb_words.specs.Faults.{refusal_of}
-use Rattle.hpb_words.specs.Telling.{AnswersJob, IsTaken, TellsLine, TellsUnled}
+use Rattle.hpb_messages.specs.Faults.{refusal_of}
+use Rattle.hpb_messages.specs.Telling.{AnswersJob, IsTaken, TellsUnled}
 use Rattle.hpb_words.specs.Hints.{hint_text}
 use Rattle.hpb_words.specs.Words.{AsksFor, HasFile, HasStatus}
 use Rattle.hpb_program.specs.Jobs.{Checks, Formats}
 use Rattle.hpb_server.specs.Fault as sessions
 use Rattle.hpb_server.specs.Script.{RunsScript}
-use Rattle.hpb_server.specs.Streams.{Streams}
+use Rattle.hpb_server.specs.Streams.{AreKept}
 use Rattle.hpb_server.specs.Telling.{Says, SaysOfScript, TellsOf}
 use Rattle.hpb_rules.specs.declared.refusal.Refusal.TheVariants as refusals
 
@@ -49,17 +51,6 @@ abbrev pub AnswersFault : (leads cut : Bool) (old new : Option (List ℕ)) → W
 AnswersFault leads cut old new Memory = TellsUnled leads cut old new refusals.Memory
 AnswersFault leads cut old new (Refused text status) = Keeps old new
 
--- The report of a job on a file that was not done, on both outputs, and its status: the line of its refusal, and why.
-abbrev pub TellsFault : (cut : Bool) (old new errors_old errors_new : Option (List ℕ)) → JobFault → ℕ → Type 0
-TellsFault cut old new errors_old errors_new fault status = AnswersJob cut old new fault × TellsOf errors_old errors_new (refusal_of fault) × (status ≡ ILL)
-
--- The report of how a job on a file ended, on both outputs, and its status. If the output failed, it was cut, and gets
--- nothing more.
-abbrev pub TellsEnd : (cut : Bool) (old new errors_old errors_new : Option (List ℕ)) → Result ⊤ JobFault → ℕ → Type 0
-TellsEnd cut old new errors_old errors_new (Ok done) status = Keeps old new × Keeps errors_old errors_new × (status ≡ WELL)
-TellsEnd cut old new errors_old errors_new (Err faults.Writer) status = (cut ≡ true) × Keeps old new × TellsOf errors_old errors_new refusals.Stream × (status ≡ ILL)
-TellsEnd cut old new errors_old errors_new (Err fault) status = TellsFault cut old new errors_old errors_new fault status
-
 -- The report at the end of a script: the fault that ended it.
 abbrev pub TellsScript : (errors_old errors_new : Option (List ℕ)) → Result ScriptEnd SessionFault → Type 0
 TellsScript errors_old errors_new (Ok end) = Keeps errors_old errors_new
@@ -72,12 +63,6 @@ TellsEnded errors_old errors_new (Ok done) false status = Keeps errors_old error
 TellsEnded errors_old errors_new (Ok done) true status = TellsOf errors_old errors_new refusals.Device × (status ≡ ILL)
 TellsEnded errors_old errors_new (Err fault) failed status = TellsOf errors_old errors_new (sessions.refusal_of fault) × (status ≡ ILL)
 
--- The report of how a run of a file ended, on both outputs, and its status. Once it has begun, the output gets nothing
--- more.
-abbrev pub TellsRun : (cut : Bool) (old new errors_old errors_new : Option (List ℕ)) → Result RunEnd JobFault → ℕ → Type 0
-TellsRun cut old new errors_old errors_new (Ok end) status = Keeps old new × TellsEnded errors_old errors_new end.end end.failed status
-TellsRun cut old new errors_old errors_new (Err fault) status = TellsFault cut old new errors_old errors_new fault status
-
 -- The same if somebody else may have cut, lengthened or written the file meanwhile. If that was seen, it is reported
 -- behind the rest, and the status is 1 in any case.
 abbrev pub TellsBeside : (errors_old errors_new : Option (List ℕ)) → (is_spoiled : Bool) → Result ⊤ SessionFault → (has_failed : Bool) → ℕ → Type 0
@@ -85,44 +70,69 @@ TellsBeside errors_old errors_new false end failed status = TellsEnded errors_ol
 TellsBeside errors_old errors_new true end failed status =
     (errors_told : Option (List ℕ)) × (ended : ℕ) × TellsEnded errors_old errors_told end failed ended × TellsOf errors_told errors_new refusals.Device × (status ≡ ILL)
 
--- The same if a file was served. Its last line counts as not written if and only if the output was cut.
-abbrev pub TellsServed : (cut : Bool) (old new errors_old errors_new : Option (List ℕ)) → Result FileEnd JobFault → ℕ → Type 0
-TellsServed cut old new errors_old errors_new (Ok end) status = Keeps old new × IsTaken cut end.said × TellsBeside errors_old errors_new end.is_spoiled end.said end.has_failed status
-TellsServed cut old new errors_old errors_new (Err fault) status = TellsFault cut old new errors_old errors_new fault status
+module _ (before after : ConsoleValue) where
+  -- The report of a job on a file that was not done, on both outputs, and its status: the line of its refusal, and why.
+  abbrev pub TellsFault : JobFault → ℕ → Type 0
+  TellsFault fault status =
+      Keeps before.streams.remaining after.streams.remaining
+      × AnswersJob after.is_cut before.streams.contents after.streams.contents fault × TellsOf before.errors after.errors (refusal_of fault) × (status ≡ ILL)
 
--- The effect of a job on the streams and standard error, and its status. Doubts about the file are reported first. The
--- output may be cut at the end or not.
-abbrev pub RunsJob : (is_terminal : Bool) → Job → (before after : Streams) (cut : Bool) (errors_old errors_new : Option (List ℕ)) → ℕ → Type 0
-RunsJob is_terminal Script before after cut errors_old errors_new status =
-    (end : Result ScriptEnd SessionFault) × RunsScript before after end × (status ≡ status_of_script end)
-    × (errors_said : Option (List ℕ)) × SaysOfScript is_terminal errors_old errors_said end × TellsScript errors_said errors_new end
-RunsJob is_terminal (Format file journal) before after cut errors_old errors_new status =
-    (done : Streams) × (end : Result ⊤ JobFault) × Formats journal before done end
-    × Keeps done.remaining after.remaining × TellsEnd cut done.contents after.contents errors_old errors_new end status
-RunsJob is_terminal (Check file) before after cut errors_old errors_new status =
-    (shown errors_told : Option (List ℕ)) × (end : Result ⊤ JobFault) × Checks before.contents shown errors_old errors_told end
-    × Keeps before.remaining after.remaining × TellsEnd cut shown after.contents errors_told errors_new end status
-RunsJob is_terminal (Run file batch every) before after cut errors_old errors_new status =
-    (done : Streams) × (errors_told : Option (List ℕ)) × (end : Result RunEnd JobFault) × RunsFile is_terminal before done errors_old errors_told end
-    × Keeps done.remaining after.remaining × TellsRun cut done.contents after.contents errors_told errors_new end status
-RunsJob is_terminal (Serve file port sessions) before after cut errors_old errors_new status =
-    (served errors_told : Option (List ℕ)) × (end : Result FileEnd JobFault) × ServesFile sessions port before.contents served end × TellsServing errors_old errors_told end
-    × Keeps before.remaining after.remaining × TellsServed cut served after.contents errors_told errors_new end status
+  -- The report of how a job on a file ended, on both outputs, and its status. If the output failed, it was cut, and gets
+  -- nothing more.
+  abbrev pub TellsEnd : Result ⊤ JobFault → ℕ → Type 0
+  TellsEnd (Ok done) status = AreKept before.streams after.streams × Keeps before.errors after.errors × (status ≡ WELL)
+  TellsEnd (Err faults.Writer) status = (after.is_cut ≡ true) × AreKept before.streams after.streams × TellsOf before.errors after.errors refusals.Stream × (status ≡ ILL)
+  TellsEnd (Err fault) status = TellsFault fault status
 
--- A standard stream leads to the file of a job that has one. Nothing is read, and standard error gets 91. The output
--- gets the whole line of 91 or nothing: no clause can say whether it leads there.
-abbrev pub RefusesStreams : Job → (before after : Streams) (cut : Bool) (errors_old errors_new : Option (List ℕ)) → ℕ → Type 0
-RefusesStreams job before after cut errors_old errors_new status =
-    HasFile job × Keeps before.remaining after.remaining × (leads : Bool) × TellsUnled leads cut before.contents after.contents refusals.Device × TellsOf errors_old errors_new refusals.Device × (status ≡ ILL)
+  -- The report of how a run of a file ended, on both outputs, and its status. Once it has begun, the output gets nothing
+  -- more.
+  abbrev pub TellsRun : Result RunEnd JobFault → ℕ → Type 0
+  TellsRun (Ok end) status = AreKept before.streams after.streams × TellsEnded before.errors after.errors end.end end.failed status
+  TellsRun (Err fault) status = TellsFault fault status
 
--- The effect of the job that words ask for. A terminal gets a hint, and the job is done, unless a standard stream leads
--- to its file. Or nothing is read, and standard error says why.
-abbrev pub RunsAsked : (is_terminal : Bool) → Result Job WordsFault → (before after : Streams) (cut : Bool) (errors_old errors_new : Option (List ℕ)) → ℕ → Type 0
-RunsAsked is_terminal (Ok job) before after cut errors_old errors_new status =
-    RefusesStreams job before after cut errors_old errors_new status
-    ⊎ ((errors_hinted : Option (List ℕ)) × Says errors_old errors_hinted (hint_text is_terminal job) × RunsJob is_terminal job before after cut errors_hinted errors_new status)
-RunsAsked is_terminal (Err fault) before after cut errors_old errors_new status = Keeps before.remaining after.remaining × (leads : Bool) × AnswersFault leads cut before.contents after.contents fault × SaysFault errors_old errors_new fault × HasStatus fault × (status ≡ status_of_fault fault)
+  -- The same if a file was served. Its last line counts as not written if and only if the output was cut.
+  abbrev pub TellsServed : Result FileEnd JobFault → ℕ → Type 0
+  TellsServed (Ok end) status = AreKept before.streams after.streams × IsTaken after.is_cut end.said × TellsBeside before.errors after.errors end.is_spoiled end.said end.has_failed status
+  TellsServed (Err fault) status = TellsFault fault status
 
--- The job that the words ask for is done.
-abbrev pub RunsProgram : (is_terminal : Bool) (words : List (List ℕ)) (before after : Streams) (cut : Bool) (errors_old errors_new : Option (List ℕ)) → ℕ → Type 0
-RunsProgram is_terminal words before after cut errors_old errors_new status = (asked : Result Job WordsFault) × AsksFor words asked × RunsAsked is_terminal asked before after cut errors_old errors_new status
+-- The effect of a job on the standard streams, and its status. Doubts about the file are reported first. The output may
+-- be cut at the end or not.
+abbrev pub RunsJob : Job → (before after : ConsoleValue) → ℕ → Type 0
+RunsJob Script before after status =
+    (end : Result ScriptEnd SessionFault) × RunsScript before.streams after.streams end × (status ≡ status_of_script end)
+    × (errors_said : Option (List ℕ)) × SaysOfScript before.is_terminal before.errors errors_said end × TellsScript errors_said after.errors end
+RunsJob (Format file journal) before after status =
+    (done : ConsoleValue) × (end : Result ⊤ JobFault) × Formats journal before.streams done.streams end × (done.errors ≡ before.errors)
+    × TellsEnd done after end status
+RunsJob (Check file) before after status =
+    (shown : ConsoleValue) × (end : Result ⊤ JobFault) × Checks before shown end × (shown.streams.remaining ≡ before.streams.remaining)
+    × TellsEnd shown after end status
+RunsJob (Run file batch every) before after status = (done : ConsoleValue) × (end : Result RunEnd JobFault) × RunsFile before done end × TellsRun done after end status
+RunsJob (Serve file port sessions) before after status =
+    (served : ConsoleValue) × (end : Result FileEnd JobFault) × ServesFile (record { port = port; sessions = sessions }) before.streams.contents served.streams.contents end
+    × TellsServing before.errors served.errors end × (served.streams.remaining ≡ before.streams.remaining) × TellsServed served after end status
+
+-- Whether some stream leads to a file which the words may name.
+abbrev pub is_any : Led → Bool
+is_any led = led.input || led.output || led.errors
+
+-- A job that has a file is refused, since some standard stream leads to a file which the words may name. Nothing is
+-- read, and standard error gets 91. The output gets the line of 91, unless it leads to such a file.
+abbrev pub RefusesStreams : Led → Job → (before after : ConsoleValue) → ℕ → Type 0
+RefusesStreams led job before after status =
+    HasFile job × (is_any led ≡ true) × Keeps before.streams.remaining after.streams.remaining
+    × TellsUnled led.output after.is_cut before.streams.contents after.streams.contents refusals.Device × TellsOf before.errors after.errors refusals.Device × (status ≡ ILL)
+
+-- The effect of the job that words ask for. A terminal gets a hint, and the job is done, unless it is refused for a
+-- stream. If the words ask for none, nothing is read, and standard error says why.
+abbrev pub RunsAsked : Led → Result Job WordsFault → (before after : ConsoleValue) → ℕ → Type 0
+RunsAsked led (Ok job) before after status =
+    RefusesStreams led job before after status
+    ⊎ ((errors_hinted : Option (List ℕ)) × Says before.errors errors_hinted (hint_text before.is_terminal job) × RunsJob job (record before { errors = errors_hinted }) after status)
+RunsAsked led (Err fault) before after status =
+    Keeps before.streams.remaining after.streams.remaining × AnswersFault led.output after.is_cut before.streams.contents after.streams.contents fault
+    × SaysFault before.errors after.errors fault × HasStatus fault × (status ≡ status_of_fault fault)
+
+-- The job that the words ask for is done. The streams led so to files that the words may name.
+abbrev pub RunsProgram : Led → (words : List (List ℕ)) → (before after : ConsoleValue) → ℕ → Type 0
+RunsProgram led words before after status = (asked : Result Job WordsFault) × AsksFor words asked × RunsAsked led asked before after status

@@ -3,7 +3,7 @@ ghost use Rattle.std.specs.Prelude.{IfErr};
 ghost use Rattle.hpb_program.specs.Serving.{IsOfDescriptors};
 
 use crate::relay::RELAY_DESCRIPTORS;
-use hpb_words::JobFault;
+use hpb_messages::JobFault;
 use std::alloc::Global;
 use std::fs::{File, Files};
 use std::io;

@@ -1,22 +1,22 @@
 //! Making a file that keeps an auction.
 ghost use Rattle.std.specs.Prelude.{◌≡◌, ◌<◌, ◌≤◌, length, IfErr, IfOk, string_bytes};
 ghost use Rattle.hpb_codec.specs.Layouts.{IsShape};
-ghost use Rattle.hpb_disk.specs.FileDisks.{file_left};
+ghost use Rattle.hpb_disk.specs.FileDisks.{file_device};
 ghost use Rattle.hpb_disk.specs.Images.{Within};
 ghost use Rattle.hpb_format.specs.Outcomes.{IsNew};
 ghost use Rattle.hpb_program.specs.Jobs.{Formats, GivesText, IsOfFile, ReadsPart, StopsPart, StopsReading, formatted_line};
-ghost use Rattle.hpb_words.specs.Telling.{is_cut, IsCutBy};
-ghost use Rattle.hpb_server.specs.Streams.{streams};
+ghost use Rattle.hpb_messages.specs.Telling.{IsCutBy};
 
+use crate::console::Console;
 use hpb_codec::JournalShape;
 use hpb_define::read_definition;
 use hpb_disk::{FileDisk, FileFault};
 use hpb_format::{FormatCause, format_layout};
 use hpb_journal::{AnyFrames, Frames};
+use hpb_messages::{JobFault, pages_of};
 use hpb_rules::MOST_DEFINITION_BYTES;
 use hpb_server::read_some;
 use hpb_tree::Definition;
-use hpb_words::{JobFault, Noted, pages_of};
 use std::alloc::{AllocError, Global};
 use std::fs::{File, Files};
 use std::io;
@@ -31,18 +31,18 @@ const PART_BYTES: usize = 4_096;
 /// Makes the file of a path keep an auction, by the definition that is the whole of the input, and writes how many
 /// pages the file has. If there is no such file, it makes one.
 #[tactic(auto, using(crate::proofs::Cutting::of_reading, crate::proofs::Cutting::of_definition, crate::proofs::Cutting::of_file))]
-pub(crate) fn run_format<H: Files<File = File>, R: Read, W: Write>(
+pub(crate) fn run_format<H: Files<File = File>, R: Read, W: Write, E: Write>(
     rt: &H,
     alloc: Global,
     file: &str,
     journal: JournalShape,
-    input: &mut R,
-    output: &mut Noted<W>,
+    console: &mut Console<R, W, E>,
 ) -> Result<(), JobFault>
-    ensures formats { Formats journal (streams (R.remaining input.old) (W.contents output.old.stream)) (streams (R.remaining input.new) (W.contents output.new.stream)) result }
-    ensures cut { IsCutBy (is_cut output.new) result }
+    ensures formats { Formats journal console.old.streams console.new.streams result }
+    ensures untold { console.new.errors ≡ console.old.errors }
+    ensures cut { IsCutBy console.new.is_cut result }
 {
-    let text = match read_text(alloc, input) {
+    let text = match read_text(alloc, &mut console.input) {
         Ok(text) => text,
         Err(fault) => return Err(fault),
     };
@@ -64,7 +64,7 @@ pub(crate) fn run_format<H: Files<File = File>, R: Read, W: Write>(
     };
     // Anyone who reads the line may open the file, so it is closed first.
     drop(disk);
-    match output.send(line.as_bytes()) {
+    match console.output.send(line.as_bytes()) {
         Ok(()) => Ok(()),
         Err(_) => Err(JobFault::Writer),
     }
@@ -123,7 +123,7 @@ fn format_file<H: Files<File = File>>(
 ) -> Result<FileDisk, JobFault>
     requires { IsShape journal }
     ensures fault { IfErr result IsOfFile }
-    ensures new { IfOk result (λ disk. Within (file_left disk) (IsNew definition.now journal)) }
+    ensures new { IfOk result (λ disk. Within (file_device disk).may_leave (IsNew definition.now journal)) }
 {
     let len = AnyFrames::new(journal).device_len();
     let disk = match FileDisk::open_or_make(rt, alloc, file, len) {

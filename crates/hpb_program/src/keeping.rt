@@ -4,16 +4,17 @@ ghost use Rattle.hpb_rules.specs.declared.command.Command.{Command};
 ghost use Rattle.hpb_rules.specs.Machine.{at_rest};
 ghost use Rattle.hpb_recover.specs.Readings.{last_value, Found, Reads};
 ghost use Rattle.hpb_recover.specs.Standing.{Stands};
-ghost use Rattle.hpb_engine.specs.Keeping.{Keeps};
+ghost use Rattle.hpb_engine.specs.Engines.{Keeps, running_of};
 ghost use Rattle.hpb_program.specs.Doubts.{TellsKept};
 ghost use Rattle.hpb_program.specs.Keeping.{IsNotOpened, IsRun, RunsFile, TellsRunning};
-ghost use Rattle.hpb_server.specs.Streams.{streams, AreKept};
+ghost use Rattle.hpb_server.specs.Streams.{AreKept};
 
+use crate::console::Console;
 use crate::opening::open_kept;
 use hpb_disk::{Disk, FileDisk};
 use hpb_engine::Engine;
-use hpb_run::{Ran, run_engine};
-use hpb_words::{JobFault, RunEnd};
+use hpb_messages::{JobFault, RunEnd};
+use hpb_run::{Pace, Ran, Session, run_engine};
 use std::alloc::Global;
 use std::fs::{File, Files};
 use std::io::{Read, Write};
@@ -23,26 +24,13 @@ pub(crate) fn run_file<H: Files<File = File>, R: Read, W: Write, E: Write>(
     rt: &H,
     alloc: Global,
     file: &str,
-    batch: u32,
-    every: u32,
-    input: &mut R,
-    output: &mut W,
-    errors: &mut E,
-    is_terminal: bool,
+    pace: Pace,
+    console: &mut Console<R, W, E>,
 ) -> Result<RunEnd, JobFault>
-    ensures runs { RunsFile is_terminal (streams (R.remaining input.old) (W.contents output.old)) (streams (R.remaining input.new) (W.contents output.new)) (E.contents errors.old) (E.contents errors.new) result }
+    ensures runs { RunsFile console.old console.new result }
 {
     let disk = FileDisk::open(rt, alloc, file)?;
-    let ran = run_kept(
-        alloc,
-        disk,
-        batch as usize,
-        every,
-        input,
-        output,
-        errors,
-        is_terminal,
-    )?;
+    let ran = run_kept(alloc, disk, pace, console)?;
     let Ran { engine, end } = ran;
     Ok(RunEnd {
         end,
@@ -51,8 +39,8 @@ pub(crate) fn run_file<H: Files<File = File>, R: Read, W: Write, E: Write>(
     })
 }
 
-/// Answers the lines of the input by the auction that a device keeps, and keeps it there. Up to `batch` commands that
-/// have come are committed together and then answered. After each `every` commits it makes a checkpoint.
+/// Answers the lines of the input by the auction that a device keeps, and keeps it there. Commands that have come are
+/// committed together and then answered, and checkpoints are made, at this pace.
 ///
 /// If the device isn't opened, it reads and writes nothing. If there are doubts about the device, signs of damage that
 /// no honest device shows, standard error gets them first.
@@ -62,30 +50,22 @@ pub(crate) fn run_file<H: Files<File = File>, R: Read, W: Write, E: Write>(
 pub fn run_kept<D: Disk + Drop, R: Read, W: Write, E: Write>(
     alloc: Global,
     disk: D,
-    batch: usize,
-    every: u32,
-    input: &mut R,
-    output: &mut W,
-    errors: &mut E,
-    is_terminal: bool,
+    pace: Pace,
+    console: &mut Console<R, W, E>,
 ) -> Result<Ran<D>, JobFault>
-    ensures run { IfOk result (λ ran. IsRun D.seen D.may_leave D.failures disk (streams (R.remaining input.old) (W.contents output.old)) (streams (R.remaining input.new) (W.contents output.new))
-        ran.engine.disk ran.engine.progress ran.engine.failed ran.end) }
-    ensures fault { IfErr result (IsNotOpened (D.seen disk)) }
-    ensures nothing { OnErr result (AreKept (streams (R.remaining input.old) (W.contents output.old)) (streams (R.remaining input.new) (W.contents output.new))) }
-    ensures told { TellsRunning is_terminal (D.seen disk) (E.contents errors.old) (E.contents errors.new) result }
+    ensures run { IfOk result (λ ran. IsRun (D.device disk) console.old.streams console.new.streams (running_of ran.engine) ran.end) }
+    ensures fault { IfErr result (IsNotOpened (D.device disk).seen) }
+    ensures nothing { OnErr result (AreKept console.old.streams console.new.streams) }
+    ensures told { TellsRunning console.old.is_terminal (D.device disk).seen console.old.errors console.new.errors result }
 {
-    let engine = start_engine(alloc, disk, errors)?;
-    Ok(run_engine(
-        alloc,
-        engine,
-        input,
-        output,
-        errors,
-        is_terminal,
-        batch,
-        every,
-    ))
+    let engine = start_engine(alloc, disk, &mut console.errors)?;
+    let mut session = Session {
+        reader: &mut console.input,
+        writer: &mut console.output,
+        errors: &mut console.errors,
+        is_terminal: console.is_terminal,
+    };
+    Ok(run_engine(alloc, engine, &mut session, pace))
 }
 
 /// Starts an engine over the auction that a device keeps.
@@ -95,13 +75,12 @@ fn start_engine<D: Disk + Drop, E: Write>(
     disk: D,
     errors: &mut E,
 ) -> Result<Engine<D>, JobFault>
-    ensures keeps { (history : List Command) → Stands history (D.seen disk)
-        → IfOk result (λ engine. Keeps D.seen D.may_leave engine.disk engine.progress engine.failed (at_rest history)) }
-    ensures read { IfOk result (λ engine. (found : Found) × Reads found (D.seen disk) × (engine.progress.committed ≡ last_value found)) }
+    ensures keeps { (history : List Command) → Stands history (D.device disk).seen → IfOk result (λ engine. Keeps engine (at_rest history)) }
+    ensures read { IfOk result (λ engine. (found : Found) × Reads found (D.device disk).seen × (engine.progress.committed ≡ last_value found)) }
     ensures works { IfOk result (λ engine. engine.failed ≡ false) }
-    ensures counted { IfOk result (λ engine. D.failures engine.disk ≡ D.failures disk) }
-    ensures fault { IfErr result (IsNotOpened (D.seen disk)) }
-    ensures told { TellsKept (D.seen disk) (E.contents errors.old) (E.contents errors.new) result }
+    ensures counted { IfOk result (λ engine. (D.device engine.disk).failures ≡ (D.device disk).failures) }
+    ensures fault { IfErr result (IsNotOpened (D.device disk).seen) }
+    ensures told { TellsKept (D.device disk).seen (E.contents errors.old) (E.contents errors.new) result }
 {
     let opened = open_kept(alloc, disk, errors)?;
     match Engine::start(alloc, opened) {

@@ -1,5 +1,6 @@
 //! Which of the standard streams lead to the file of a job.
 ghost use Rattle.std.specs.Prelude.{◌≡◌, false, true, codes};
+ghost use Rattle.hpb_program.specs.Program.{is_any};
 
 use hpb_words::Job;
 use std::env::{Env, FillError};
@@ -76,8 +77,14 @@ pub struct Led {
 }
 
 impl Led {
-    /// The streams that lead to the file of a job, or to the one that `format` is making.
-    pub(crate) fn to<H: Files>(rt: &H, job: Job<'_>, file: &str) -> Led {
+    /// The streams that lead to the file of a job, or to the one that `format` is making. There are none if none of
+    /// these leads to a file that the words may name.
+    pub(crate) fn to_job<H: Files>(self, rt: &H, job: Job<'_>, file: &str) -> Led
+        ensures { is_any result ≡ true → is_any self ≡ true }
+    {
+        if !self.is_any() {
+            return self;
+        }
         match job {
             Job::Format { .. } => Led::to_either(rt, file.as_bytes()),
             _ => Led::to_file(rt, file.as_bytes()),
@@ -170,7 +177,9 @@ impl Led {
     }
 
     /// Whether any stream leads there.
-    pub(crate) fn is_any(self) -> bool {
+    pub(crate) fn is_any(self) -> bool
+        ensures { result ≡ is_any self }
+    {
         self.input || self.output || self.errors
     }
 

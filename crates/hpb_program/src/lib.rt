@@ -2,6 +2,7 @@
 #![tactic(auto)]
 
 mod checking;
+mod console;
 mod descriptors;
 mod formatting;
 mod keeping;
@@ -17,12 +18,14 @@ mod streams;
 mod waiting;
 
 pub use checking::check_device;
-pub use hpb_words::{Job, JobFault, Noted, RunEnd, WordsFault, read_words, words_ask_for};
+pub use console::Console;
+pub use hpb_messages::{JobFault, Noted, RunEnd};
+pub use hpb_words::{Job, WordsFault, read_words, words_ask_for};
 pub use keeping::run_kept;
 pub use laws::limits_are;
 pub use led::Led;
 pub use running::{program, refuse_streams, refuse_words};
-pub use serving::{FileEnd, ServeEnd, serve_kept};
+pub use serving::{FileEnd, Seats, ServeEnd, serve_kept};
 pub use stack::hold_stack;
 pub use streams::hold_streams;
 pub use waiting::Waiting;

@@ -2,8 +2,10 @@
 
 use crate::relay::Relay;
 use hpb_disk::{FileDisk, FileFault};
+use hpb_messages::{
+    Change, ChangeNotice, Ending, FailedNotice, PlaceNotice, PlaceState, SeatNotice,
+};
 use hpb_serve::{EndCause, Place, Watch};
-use hpb_words::{Change, ChangeNotice, Ending, FailedNotice, PlaceNotice, PlaceState, SeatNotice};
 use std::alloc::{AllocError, Global};
 use std::fs::{File, Files};
 use std::io;

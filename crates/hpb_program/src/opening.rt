@@ -3,7 +3,7 @@ ghost use Rattle.std.specs.Prelude.{◌≡◌, List, None, IfErr, IfOk, OnErr, s
 ghost use Rattle.std.specs.Io.KnownBytes.{Keeps};
 ghost use Rattle.hpb_rules.specs.declared.command.Command.{Command};
 ghost use Rattle.hpb_rules.specs.AuctionValue.{Shows};
-ghost use Rattle.hpb_disk.specs.Images.{Only};
+ghost use Rattle.hpb_disk.specs.Device.{IsSettled};
 ghost use Rattle.hpb_recover.specs.Readings.{Found, Reads};
 ghost use Rattle.hpb_recover.specs.Standing.{Stands};
 ghost use Rattle.hpb_recover.specs.Doubts.{IsFrameTold, IsSlotTold};
@@ -13,9 +13,9 @@ ghost use Rattle.hpb_program.specs.Keeping.{IsNotOpened};
 
 use hpb_disk::Disk;
 use hpb_journal::Frame;
+use hpb_messages::JobFault;
 use hpb_recover::{Doubts, Later, Opened, Plan, find_doubts, open};
 use hpb_server::say;
-use hpb_words::JobFault;
 use std::alloc::{AllocError, Global};
 use std::fmt;
 use std::io::Write;
@@ -32,13 +32,13 @@ pub(crate) fn open_kept<D: Disk + Drop, E: Write>(
     disk: D,
     errors: &mut E,
 ) -> Result<Opened<D>, JobFault>
-    ensures shows { (history : List Command) → Stands history (D.seen disk) → IfOk result (λ opened. Shows opened.plan.auction history) }
-    ensures read { IfOk result (λ opened. (found : Found) × Reads found (D.seen disk) × IsPlanOf opened.plan found) }
-    ensures plan { IfOk result (λ opened. IsPlan opened.plan (D.seen disk)) }
-    ensures same { IfOk result (λ opened. D.seen opened.disk ≡ D.seen disk) }
-    ensures works { IfOk result (λ opened. D.failures opened.disk ≡ D.failures disk) }
-    ensures fault { IfErr result (IsNotOpened (D.seen disk)) }
-    ensures told { IfOk result (λ opened. TellsDoubts opened.plan (D.seen disk) (E.contents errors.old) (E.contents errors.new)) }
+    ensures shows { (history : List Command) → Stands history (D.device disk).seen → IfOk result (λ opened. Shows opened.plan.auction history) }
+    ensures read { IfOk result (λ opened. (found : Found) × Reads found (D.device disk).seen × IsPlanOf opened.plan found) }
+    ensures plan { IfOk result (λ opened. IsPlan opened.plan (D.device disk).seen) }
+    ensures same { IfOk result (λ opened. (D.device opened.disk).seen ≡ (D.device disk).seen) }
+    ensures works { IfOk result (λ opened. (D.device opened.disk).failures ≡ (D.device disk).failures) }
+    ensures fault { IfErr result (IsNotOpened (D.device disk).seen) }
+    ensures told { IfOk result (λ opened. TellsDoubts opened.plan (D.device disk).seen (E.contents errors.old) (E.contents errors.new)) }
     ensures untold { OnErr result (Keeps (E.contents errors.old) (E.contents errors.new)) }
 {
     let opened = match open(alloc, disk) {
@@ -63,10 +63,10 @@ struct Looked<D: Disk + Drop> {
 #[tactic(auto, using(crate::proofs::Doubting::of_machine))]
 fn look<D: Disk + Drop>(alloc: Global, opened: Opened<D>) -> Result<Looked<D>, JobFault>
     ensures plan { IfOk result (λ looked. looked.opened.plan ≡ opened.plan) }
-    ensures same { IfOk result (λ looked. D.seen looked.opened.disk ≡ D.seen opened.disk) }
-    ensures works { IfOk result (λ looked. D.failures looked.opened.disk ≡ D.failures opened.disk) }
-    ensures slot { IfOk result (λ looked. IsSlotTold opened.plan (D.seen opened.disk) looked.doubts.slot) }
-    ensures frame { IfOk result (λ looked. IsFrameTold opened.plan (D.seen opened.disk) looked.doubts.frame) }
+    ensures same { IfOk result (λ looked. (D.device looked.opened.disk).seen ≡ (D.device opened.disk).seen) }
+    ensures works { IfOk result (λ looked. (D.device looked.opened.disk).failures ≡ (D.device opened.disk).failures) }
+    ensures slot { IfOk result (λ looked. IsSlotTold opened.plan (D.device opened.disk).seen looked.doubts.slot) }
+    ensures frame { IfOk result (λ looked. IsFrameTold opened.plan (D.device opened.disk).seen looked.doubts.frame) }
     ensures fault { IfErr result IsOfMachine }
 {
     let Opened { mut disk, plan, .. } = opened;
@@ -81,8 +81,8 @@ fn look<D: Disk + Drop>(alloc: Global, opened: Opened<D>) -> Result<Looked<D>, J
 
 /// The opened device again, after reads alone.
 fn opened_still<D: Disk + Drop>(disk: D, plan: Plan) -> Opened<D>
-    requires durable { Only (D.seen disk) (D.may_leave disk) }
-    requires read { IsPlan plan (D.seen disk) }
+    requires durable { IsSettled (D.device disk) }
+    requires read { IsPlan plan (D.device disk).seen }
     ensures disk { result.disk ≡ disk }
     ensures plan { result.plan ≡ plan }
 {

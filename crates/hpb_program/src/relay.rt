@@ -2,8 +2,8 @@
 //! `errors` belong to another thread alone.
 
 use crate::waiting::{Waiting, wait_for};
+use hpb_messages::MissedNotices;
 use hpb_server::{read_some, say};
-use hpb_words::MissedNotices;
 use std::alloc::{AllocError, Global};
 use std::fs::Files;
 use std::io::{PipeReader, PipeWriter, Write, pipe};

@@ -2,25 +2,26 @@ ghost use Rattle.std.specs.Prelude.{◌≡◌, ◌≢◌, ◌≤◌, true, IfErr
 ghost use Rattle.std.specs.Io.KnownBytes.{Keeps};
 ghost use Rattle.std.specs.IoError.{error_kind};
 ghost use Rattle.hpb_program.specs.Program.{AnswersFault, RunsAsked, RunsJob, RunsProgram, SaysFault, TellsBeside, TellsEnd, TellsEnded, TellsFault, TellsRun, TellsScript, TellsServed, status_of_fault, status_of_script};
-ghost use Rattle.hpb_words.specs.Telling.{is_cut, IsCutBy, IsTaken, TellsUnled};
-ghost use Rattle.hpb_server.specs.Streams.{streams};
+ghost use Rattle.hpb_messages.specs.Telling.{is_cut, IsCutBy, IsTaken, TellsUnled};
 ghost use Rattle.hpb_rules.specs.declared.refusal.Refusal.TheVariants as refusals;
 ghost use Rattle.hpb_words.specs.Words.{HasRanges, HasStatus};
 ghost use Rattle.hpb_server.specs.Telling.{Says, TellsOf};
 
 use crate::checking::run_check;
+use crate::console::Console;
 use crate::formatting::run_format;
 use crate::keeping::run_file;
 use crate::led::Led;
-use crate::serving::{FileEnd, serve_file};
-use crate::streams::{advise_unled, refuse_led, say_unled, tell_memory_unled, tell_unled};
-use hpb_rules::Refusal;
-use hpb_server::{ScriptEnd, SessionFault, run_script};
-use hpb_words::{
-    EndAdvice, Failures, ILL, Job, JobAdvice, JobFault, Known, Noted, RunEnd, ScriptAdvice,
-    SpoiledAdvice, StreamsAdvice, WELL, WRONG_WORDS, WordsFault, advise, hint, known_of,
-    read_words, tell_job,
+use crate::serving::{FileEnd, Seats, serve_file};
+use crate::streams::{advise_led, advise_unled, say_unled, tell_memory_unled, tell_unled};
+use hpb_messages::{
+    EndAdvice, Failures, JobAdvice, JobFault, Known, Noted, RunEnd, ScriptAdvice, SpoiledAdvice,
+    StreamsAdvice, advise, hint, known_of, tell_job,
 };
+use hpb_rules::Refusal;
+use hpb_run::Pace;
+use hpb_server::{ScriptEnd, SessionFault, run_script};
+use hpb_words::{ILL, Job, WELL, WRONG_WORDS, WordsFault, read_words};
 use std::alloc::Global;
 use std::convert::AsStr;
 use std::fs::{File, Files};
@@ -38,38 +39,29 @@ const NO_TEXT: &str = "hpb: an argument is not UTF-8\n";
 /// The status is 0 if all went well. It is 1 if a definition or a file is refused, memory is refused or a stream fails,
 /// and 2 if the words are wrong.
 ///
-/// Result lines go to `output`. The line of a refusal, and the last line of a file that was formatted or served, are
-/// whole there unless `output` says that it was cut.
+/// Result lines go to the console's output. The line of a refusal, and the last line of a file that was formatted or
+/// served, are whole there unless the output was cut.
 ///
-/// Messages go to `errors`:
+/// Messages go to its errors:
 /// - about the words, and also help;
 /// - why a definition or a file is refused, or a stream failed;
 /// - if the input is a terminal: what to type, and which number would do in place of a refused command.
 ///
-/// Only jobs on files use the runtime, and of these only serving may wait. If the words ask for no job, it writes
-/// nothing to a stream that leads to a file which they may name.
+/// Only jobs on files use the runtime, and of these only serving may wait. `led` says which streams lead to files that
+/// the words may name. If none does, no job is refused for its file. If the words ask for no job, it writes nothing to
+/// such a stream.
 pub fn program<
     H: Files<File = File> + Net<Listener = TcpListener, Stream = TcpStream> + Threads + Wait + Sync,
     S: AsStr,
     R: Read,
     W: Write,
     E: Write,
->(
-    rt: &H,
-    alloc: Global,
-    words: &[S],
-    led: Led,
-    input: &mut Noted<R>,
-    output: &mut Noted<W>,
-    errors: &mut E,
-    is_terminal: bool,
-) -> u8
+>(rt: &H, alloc: Global, words: &[S], led: Led, console: &mut Console<R, W, E>) -> u8
     ensures status { result ≤ WRONG_WORDS }
-    ensures streams { RunsProgram is_terminal (map S.text words.now) (streams (R.remaining input.old.stream) (W.contents output.old.stream)) (streams (R.remaining input.new.stream) (W.contents output.new.stream))
-        (is_cut output.new) (E.contents errors.old) (E.contents errors.new) result }
+    ensures streams { RunsProgram led (map S.text words.now) console.old console.new result }
 {
     let asked = read_words(alloc, words);
-    run_asked(rt, alloc, asked, led, input, output, errors, is_terminal)
+    run_asked(rt, alloc, asked, led, console)
 }
 
 /// The program's status if its words can't be read: 1 if memory was refused, and otherwise 2. `errors` gets the reason,
@@ -118,29 +110,27 @@ fn run_asked<
     alloc: Global,
     asked: Result<Job<'_>, WordsFault>,
     led: Led,
-    input: &mut Noted<R>,
-    output: &mut Noted<W>,
-    errors: &mut E,
-    is_terminal: bool,
+    console: &mut Console<R, W, E>,
 ) -> u8
     requires fault { IfErr asked HasStatus }
     requires ranges { IfOk asked HasRanges }
     ensures status { result ≤ WRONG_WORDS }
-    ensures streams { RunsAsked is_terminal asked.entry (streams (R.remaining input.old.stream) (W.contents output.old.stream)) (streams (R.remaining input.new.stream) (W.contents output.new.stream))
-        (is_cut output.new) (E.contents errors.old) (E.contents errors.new) result }
+    ensures streams { RunsAsked led asked.entry console.old console.new result }
 {
     match asked {
         Ok(job) => {
             if let Some(file) = job.file() {
-                let led = Led::to(rt, job, file);
-                if led.is_any() {
-                    return refuse_led(alloc, file, led, output, errors);
+                let leading = led.to_job(rt, job, file);
+                if leading.is_any() {
+                    tell_unled(Refusal::Device, led, &mut console.output);
+                    advise_led(alloc, file, leading, &mut console.errors);
+                    return ILL;
                 }
             }
-            hint(job, is_terminal, errors);
-            run_job(rt, alloc, job, input, output, errors, is_terminal)
+            hint(job, console.is_terminal, &mut console.errors);
+            run_job(rt, alloc, job, console)
         }
-        Err(fault) => say_fault(fault, led, output, errors),
+        Err(fault) => say_fault(fault, led, &mut console.output, &mut console.errors),
     }
 }
 
@@ -150,58 +140,49 @@ fn run_job<
     R: Read,
     W: Write,
     E: Write,
->(
-    rt: &H,
-    alloc: Global,
-    job: Job<'_>,
-    input: &mut Noted<R>,
-    output: &mut Noted<W>,
-    errors: &mut E,
-    is_terminal: bool,
-) -> u8
+>(rt: &H, alloc: Global, job: Job<'_>, console: &mut Console<R, W, E>) -> u8
     requires { HasRanges job }
     ensures status { result ≤ WRONG_WORDS }
-    ensures streams { RunsJob is_terminal job.entry (streams (R.remaining input.old.stream) (W.contents output.old.stream)) (streams (R.remaining input.new.stream) (W.contents output.new.stream))
-        (is_cut output.new) (E.contents errors.old) (E.contents errors.new) result }
+    ensures streams { RunsJob job.entry console.old console.new result }
 {
     match job {
         Job::Script => {
-            let end = run_script(alloc, input, output, errors, is_terminal);
-            tell_script(alloc, end, Failures::of(input, output), errors)
+            let end = run_script(
+                alloc,
+                &mut console.input,
+                &mut console.output,
+                &mut console.errors,
+                console.is_terminal,
+            );
+            tell_script(alloc, end, console.failures(), &mut console.errors)
         }
         Job::Format { file, journal } => {
-            let end = run_format(rt, alloc, file, journal, input, output);
-            let known = known_of(rt, alloc, job, &end, Failures::of(input, output));
-            tell_end(alloc, known, end, output, errors)
+            let end = run_format(rt, alloc, file, journal, console);
+            let known = known_of(rt, alloc, job, &end, console.failures());
+            tell_end(alloc, known, end, console)
         }
         Job::Check { file } => {
-            let end = run_check(rt, alloc, file, output, errors);
-            let known = known_of(rt, alloc, job, &end, Failures::of(input, output));
-            tell_end(alloc, known, end, output, errors)
+            let end = run_check(rt, alloc, file, console);
+            let known = known_of(rt, alloc, job, &end, console.failures());
+            tell_end(alloc, known, end, console)
         }
         Job::Run { file, batch, every } => {
-            let end = run_file(
-                rt,
-                alloc,
-                file,
-                batch,
+            let pace = Pace {
+                batch: batch as usize,
                 every,
-                input,
-                output,
-                errors,
-                is_terminal,
-            );
-            let known = known_of(rt, alloc, job, &end, Failures::of(input, output));
-            tell_run(alloc, known, end, output, errors)
+            };
+            let end = run_file(rt, alloc, file, pace, console);
+            let known = known_of(rt, alloc, job, &end, console.failures());
+            tell_run(alloc, known, end, console)
         }
         Job::Serve {
             file,
             port,
             sessions,
         } => {
-            let end = serve_file(rt, alloc, file, port, sessions, output, errors);
-            let known = known_of(rt, alloc, job, &end, Failures::of(input, output));
-            tell_served(alloc, known, end, output, errors)
+            let end = serve_file(rt, alloc, file, Seats { port, sessions }, console);
+            let known = known_of(rt, alloc, job, &end, console.failures());
+            tell_served(alloc, known, end, console)
         }
     }
 }
@@ -233,76 +214,72 @@ fn tell_script<E: Write>(
 }
 
 /// Reports how a job on a file ended, and gives the program's status.
-fn tell_end<W: Write, E: Write>(
+fn tell_end<R: Read, W: Write, E: Write>(
     alloc: Global,
     known: Known<'_>,
     end: Result<(), JobFault>,
-    output: &mut Noted<W>,
-    errors: &mut E,
+    console: &mut Console<R, W, E>,
 ) -> u8
-    requires { IsCutBy (is_cut output.old) end }
+    requires { IsCutBy console.old.is_cut end }
     ensures status { result ≤ WRONG_WORDS }
-    ensures told { TellsEnd (is_cut output.new) (W.contents output.old.stream) (W.contents output.new.stream) (E.contents errors.old) (E.contents errors.new) end result }
+    ensures told { TellsEnd console.old console.new end result }
 {
     match end {
         Ok(()) => WELL,
-        Err(fault) => tell_fault(alloc, known, fault, output, errors),
+        Err(fault) => tell_fault(alloc, known, fault, console),
     }
 }
 
 /// Reports why a job on a file was not done, and gives the program's status.
-fn tell_fault<W: Write, E: Write>(
+fn tell_fault<R: Read, W: Write, E: Write>(
     alloc: Global,
     known: Known<'_>,
     fault: JobFault,
-    output: &mut Noted<W>,
-    errors: &mut E,
+    console: &mut Console<R, W, E>,
 ) -> u8
     ensures status { result ≤ WRONG_WORDS }
-    ensures told { TellsFault (is_cut output.new) (W.contents output.old.stream) (W.contents output.new.stream) (E.contents errors.old) (E.contents errors.new) fault result }
-    ensures cut { is_cut output.old ≡ true → (is_cut output.new ≡ true) × Keeps (W.contents output.old.stream) (W.contents output.new.stream) }
+    ensures told { TellsFault console.old console.new fault result }
+    ensures cut { console.old.is_cut ≡ true → (console.new.is_cut ≡ true) × Keeps console.old.streams.contents console.new.streams.contents }
 {
-    tell_job(&fault, output);
+    tell_job(&fault, &mut console.output);
     let advice = JobAdvice {
         fault: &fault,
         known,
     };
-    advise(alloc, fault.refusal(), advice, errors);
+    advise(alloc, fault.refusal(), advice, &mut console.errors);
     ILL
 }
 
 /// Reports how a run of a file ended, and gives the program's status.
-fn tell_run<W: Write, E: Write>(
+fn tell_run<R: Read, W: Write, E: Write>(
     alloc: Global,
     known: Known<'_>,
     end: Result<RunEnd, JobFault>,
-    output: &mut Noted<W>,
-    errors: &mut E,
+    console: &mut Console<R, W, E>,
 ) -> u8
     ensures status { result ≤ WRONG_WORDS }
-    ensures told { TellsRun (is_cut output.new) (W.contents output.old.stream) (W.contents output.new.stream) (E.contents errors.old) (E.contents errors.new) end result }
+    ensures told { TellsRun console.old console.new end result }
 {
     match end {
-        Ok(end) => tell_ended(alloc, end, known, errors),
-        Err(fault) => tell_fault(alloc, known, fault, output, errors),
+        Ok(end) => tell_ended(alloc, end, known, &mut console.errors),
+        Err(fault) => tell_fault(alloc, known, fault, console),
     }
 }
 
 /// Reports how serving a file ended, and gives the program's status.
-fn tell_served<W: Write, E: Write>(
+fn tell_served<R: Read, W: Write, E: Write>(
     alloc: Global,
     known: Known<'_>,
     end: Result<FileEnd, JobFault>,
-    output: &mut Noted<W>,
-    errors: &mut E,
+    console: &mut Console<R, W, E>,
 ) -> u8
-    requires { IfOk end (λ served. IsTaken (is_cut output.old) served.said) }
+    requires { IfOk end (λ served. IsTaken console.old.is_cut served.said) }
     ensures status { result ≤ WRONG_WORDS }
-    ensures told { TellsServed (is_cut output.new) (W.contents output.old.stream) (W.contents output.new.stream) (E.contents errors.old) (E.contents errors.new) end result }
+    ensures told { TellsServed console.old console.new end result }
 {
     match end {
-        Ok(end) => tell_closed(alloc, known, &end, errors),
-        Err(fault) => tell_fault(alloc, known, fault, output, errors),
+        Ok(end) => tell_closed(alloc, known, &end, &mut console.errors),
+        Err(fault) => tell_fault(alloc, known, fault, console),
     }
 }
 

@@ -3,10 +3,11 @@ ghost use Rattle.std.specs.Prelude.{◌≡◌, ◌≤◌, [], IfOk, MatchResult,
 ghost use Rattle.hpb_program.specs.Doubts.{TellsKept, TellsServing};
 ghost use Rattle.hpb_program.specs.Jobs.{made_of_serving};
 ghost use Rattle.hpb_program.specs.Serving.{ServesFile, ServesKept, ServesUnsaid, closed_line};
-ghost use Rattle.hpb_words.specs.Telling.{is_cut, IsTaken};
+ghost use Rattle.hpb_messages.specs.Telling.{is_cut, IsTaken};
 ghost use Rattle.hpb_server.specs.Writing.{Sends};
 ghost use Rattle.hpb_rules.specs.declared.limits.TheConstants.{MOST_SEATS};
 
+use crate::console::Console;
 use crate::descriptors::look_for_descriptors;
 use crate::lookout::Lookout;
 use crate::opening::open_kept;
@@ -14,14 +15,14 @@ use crate::relay::Relay;
 use hpb_auction::Auction;
 use hpb_disk::{Disk, FileDisk};
 use hpb_house::{Closing, StartCause};
+use hpb_messages::{JobFault, Noted};
 use hpb_rings::Report;
-use hpb_serve::{ServeFault, Served, Unwatched, Watch, serve_watched};
+use hpb_serve::{Port, ServeFault, Served, Unwatched, Watch, serve_opened};
 use hpb_server::SessionFault;
-use hpb_words::{JobFault, Noted};
 use std::alloc::{AllocError, Global};
 use std::fs::{File, Files};
 use std::io;
-use std::io::Write;
+use std::io::{Read, Write};
 use std::net::{Ipv4Addr, Net, TcpListener, TcpStream};
 use std::snapshot::Snapshot;
 use std::sync::Wait;
@@ -29,6 +30,20 @@ use std::thread::Threads;
 
 /// How many bytes the last line may have: the number of commands has 32 bits, so ten digits at most.
 const CLOSED_BYTES: usize = 18;
+
+/// How many sessions are served, and at which port of 127.0.0.1.
+#[derive(Clone, Copy, Debug)]
+pub struct Seats {
+    pub port: u16,
+    pub sessions: u8,
+}
+
+/// The same, with a watch over them.
+#[derive(Drop)]
+struct WatchedSeats<'a, V> {
+    seats: Seats,
+    watch: &'a V,
+}
 
 /// The end of serving a device that had begun.
 #[derive(Drop)]
@@ -73,27 +88,27 @@ struct Unsaid<D: Disk + Drop> {
 #[tactic(auto, using(crate::proofs::Served::of_device, crate::proofs::Served::unheld, crate::proofs::Served::unopened_file))]
 pub(crate) fn serve_file<
     H: Files<File = File> + Net<Listener = TcpListener, Stream = TcpStream> + Threads + Wait + Sync,
+    R: Read,
     W: Write,
     E: Write,
 >(
     rt: &H,
     alloc: Global,
     file: &str,
-    port: u16,
-    sessions: u8,
-    output: &mut Noted<W>,
-    errors: &mut E,
+    seats: Seats,
+    console: &mut Console<R, W, E>,
 ) -> Result<FileEnd, JobFault>
-    requires { (1 ≤ sessions) × (sessions ≤ MOST_SEATS) }
-    ensures told { TellsServing (E.contents errors.old) (E.contents errors.new) result }
-    ensures serves { ServesFile sessions port (W.contents output.old.stream) (W.contents output.new.stream) result }
-    ensures taken { IfOk result (λ end. IsTaken (is_cut output.new) end.said) }
+    requires { (1 ≤ seats.sessions) × (seats.sessions ≤ MOST_SEATS) }
+    ensures told { TellsServing console.old.errors console.new.errors result }
+    ensures serves { ServesFile seats console.old.streams.contents console.new.streams.contents result }
+    ensures taken { IfOk result (λ end. IsTaken console.new.is_cut end.said) }
+    ensures unread { console.new.streams.remaining ≡ console.old.streams.remaining }
 {
     let disk = match FileDisk::open(rt, alloc, file) {
         Ok(disk) => disk,
         Err(fault) => return Err(JobFault::from(fault)),
     };
-    if let Err(fault) = look_for_descriptors(rt, alloc, sessions) {
+    if let Err(fault) = look_for_descriptors(rt, alloc, seats.sessions) {
         return Err(fault);
     }
     let relay = Relay::start(rt, alloc);
@@ -102,9 +117,11 @@ pub(crate) fn serve_file<
         Err(fault) => return Err(JobFault::from(fault)),
     };
     let opened = Snapshot::of(&disk);
-    let Unsaid { served, room } = match serve_device(
-        rt, alloc, disk, port, sessions, output, errors, &lookout,
-    ) {
+    let watched = WatchedSeats {
+        seats,
+        watch: &lookout,
+    };
+    let Unsaid { served, room } = match serve_device(rt, alloc, disk, watched, console) {
         Ok(unsaid) => unsaid,
         Err(fault) => return Err(fault),
     };
@@ -120,7 +137,7 @@ pub(crate) fn serve_file<
     let is_spoiled = lookout.is_spoiled();
     // Anyone who reads the last line may open the file, so it is closed first.
     drop(disk);
-    match say_closed(room, auction.count(), output) {
+    match say_closed(room, auction.count(), &mut console.output) {
         Ok(said) => Ok(FileEnd {
             opened,
             left,
@@ -155,32 +172,35 @@ pub(crate) fn serve_file<
 pub fn serve_kept<
     H: Net<Listener = TcpListener, Stream = TcpStream> + Threads + Wait + Sync,
     D: Disk + Drop + Send,
+    R: Read,
     W: Write,
     E: Write,
 >(
     rt: &H,
     alloc: Global,
     disk: D,
-    port: u16,
-    sessions: u8,
-    output: &mut Noted<W>,
-    errors: &mut E,
+    seats: Seats,
+    console: &mut Console<R, W, E>,
 ) -> Result<ServeEnd<D>, JobFault>
-    requires { (1 ≤ sessions) × (sessions ≤ MOST_SEATS) }
-    ensures told { TellsKept (D.seen disk) (E.contents errors.old) (E.contents errors.new) result }
-    ensures serves { ServesKept D.seen D.may_leave D.failures disk sessions port (W.contents output.old.stream) (W.contents output.new.stream) result }
-    ensures taken { IfOk result (λ end. IsTaken (is_cut output.new) end.said) }
+    requires { (1 ≤ seats.sessions) × (seats.sessions ≤ MOST_SEATS) }
+    ensures told { TellsKept (D.device disk).seen console.old.errors console.new.errors result }
+    ensures serves { ServesKept D.device (D.device disk) seats console.old.streams.contents console.new.streams.contents result }
+    ensures taken { IfOk result (λ end. IsTaken console.new.is_cut end.said) }
+    ensures unread { console.new.streams.remaining ≡ console.old.streams.remaining }
 {
-    let Unsaid { served, room } = match serve_device(
-        rt, alloc, disk, port, sessions, output, errors, &Unwatched,
-    ) {
+    let watched = WatchedSeats {
+        seats,
+        watch: &Unwatched,
+    };
+    let Unsaid { served, room } = match serve_device(rt, alloc, disk, watched, console) {
         Ok(unsaid) => unsaid,
         Err(fault) => return Err(fault),
     };
-    match say_closed(room, served.closing.auction.count(), output) {
-        Ok(said) => Ok(ServeEnd { served, said }),
-        Err(_) => Err(JobFault::Memory),
-    }
+    let said = match say_closed(room, served.closing.auction.count(), &mut console.output) {
+        Ok(said) => said,
+        Err(_) => return Err(JobFault::Memory),
+    };
+    Ok(ServeEnd { served, said })
 }
 
 /// Serves sessions as `serve_kept` does, up to the last line, and reports events beside them to a watch.
@@ -188,6 +208,7 @@ pub fn serve_kept<
 fn serve_device<
     H: Net<Listener = TcpListener, Stream = TcpStream> + Threads + Wait + Sync,
     D: Disk + Drop + Send,
+    R: Read,
     W: Write,
     E: Write,
     V: Watch + Sync,
@@ -195,24 +216,34 @@ fn serve_device<
     rt: &H,
     alloc: Global,
     disk: D,
-    port: u16,
-    sessions: u8,
-    output: &mut W,
-    errors: &mut E,
-    watch: &V,
+    watched: WatchedSeats<'_, V>,
+    console: &mut Console<R, W, E>,
 ) -> Result<Unsaid<D>, JobFault>
-    requires { (1 ≤ sessions) × (sessions ≤ MOST_SEATS) }
-    ensures told { TellsKept (D.seen disk) (E.contents errors.old) (E.contents errors.new) result }
-    ensures serves { ServesUnsaid D.seen D.may_leave D.failures disk sessions port (W.contents output.old) (W.contents output.new) result }
+    requires { (1 ≤ watched.seats.sessions) × (watched.seats.sessions ≤ MOST_SEATS) }
+    ensures told { TellsKept (D.device disk).seen console.old.errors console.new.errors result }
+    ensures serves { ServesUnsaid D.device (D.device disk) watched.entry.seats console.old.streams.contents console.new.streams.contents result }
+    ensures unread { console.new.streams.remaining ≡ console.old.streams.remaining }
 {
-    let opened = open_kept(alloc, disk, errors)?;
+    let opened = open_kept(alloc, disk, &mut console.errors)?;
     // The room of the last line is taken first, so that a failed disk is reported even if memory is refused later.
     let room = String::with_capacity(alloc, CLOSED_BYTES)?;
-    let listener = match listen(rt, port) {
+    let WatchedSeats { seats, watch } = watched;
+    let listener = match listen(rt, seats.port) {
         Ok(listener) => listener,
-        Err(error) => return Err(JobFault::Port { port, error }),
+        Err(error) => {
+            return Err(JobFault::Port {
+                port: seats.port,
+                error,
+            });
+        }
     };
-    let served = match serve_watched(rt, alloc, opened, listener, port, sessions, output, watch) {
+    let port = Port {
+        listener,
+        number: seats.port,
+        sessions: seats.sessions,
+        watch,
+    };
+    let served = match serve_opened(rt, alloc, opened, port, &mut console.output) {
         Ok(served) => served,
         Err(fault) => return Err(fault_of_serving(fault)),
     };

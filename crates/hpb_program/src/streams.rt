@@ -1,14 +1,12 @@
 //! The standard streams. Closed ones are opened, and one that leads to the file of a job gets nothing.
-ghost use Rattle.std.specs.Prelude.{◌≡◌};
-ghost use Rattle.hpb_words.specs.declared.status.TheConstants.{ILL};
 ghost use Rattle.hpb_rules.specs.declared.refusal.Refusal.TheVariants as refusals;
-ghost use Rattle.hpb_words.specs.Telling.{is_cut, TellsUnled};
+ghost use Rattle.hpb_messages.specs.Telling.{is_cut, TellsUnled};
 ghost use Rattle.hpb_server.specs.Telling.{Says, TellsOf};
 
 use crate::led::Led;
+use hpb_messages::{LedAdvice, Noted, advise, tell, tell_memory};
 use hpb_rules::Refusal;
 use hpb_server::say;
-use hpb_words::{ILL, LedAdvice, Noted, advise, tell, tell_memory};
 use std::alloc::Global;
 use std::fs::{File, Files};
 use std::io::Write;
@@ -90,20 +88,10 @@ pub(crate) fn tell_memory_unled<E: Write>(led: Led, errors: &mut E)
     }
 }
 
-/// Refuses a job to whose file a standard stream leads: reports 91 `device`, and gives the status 1. A stream that
-/// leads there gets nothing, since it would be written into the auction.
-pub(crate) fn refuse_led<W: Write, E: Write>(
-    alloc: Global,
-    file: &str,
-    led: Led,
-    output: &mut Noted<W>,
-    errors: &mut E,
-) -> u8
-    ensures status { result ≡ ILL }
-    ensures answered { TellsUnled led.output (is_cut output.new) (W.contents output.old.stream) (W.contents output.new.stream) refusals.Device }
-    ensures told { TellsOf (E.contents errors.old) (E.contents errors.new) refusals.Device }
+/// Writes to standard error that a standard stream leads to a job's file, unless that one does.
+pub(crate) fn advise_led<E: Write>(alloc: Global, file: &str, led: Led, errors: &mut E)
+    ensures { TellsOf (E.contents errors.old) (E.contents errors.new) refusals.Device }
 {
-    tell_unled(Refusal::Device, led, output);
     if !led.errors {
         let advice = LedAdvice {
             stream: led.stream(),
@@ -112,5 +100,4 @@ pub(crate) fn refuse_led<W: Write, E: Write>(
         };
         advise(alloc, Refusal::Device, advice, errors);
     }
-    ILL
 }

@@ -6,7 +6,7 @@ use Rattle.hpb_codec.proofs.States.{not_true}
 use Rattle.hpb_rules.specs.AuctionValue.{AuctionValue}
 use Rattle.hpb_journal.specs.Layouts.{Layout, IsLayout}
 use Rattle.hpb_journal.specs.Frames.{IsOpen}
-use Rattle.hpb_recover.specs.Replaying.{AreGates, IsBroken, IsReplayed, IsWhole, Leads, NoneIsOwn, OneIsOwn}
+use Rattle.hpb_recover.specs.Replaying.{AreGates, AreKnown, IsBroken, IsReplayed, IsWhole, Leads, NoneIsOwn, OneIsOwn}
 use Rattle.hpb_recover.proofs.Leading.{own_of_frame}
 
 module _ (layout : Layout) (covered next : ℕ) (value reached : AuctionValue) (image : List ℕ) (known : List Bool)
@@ -37,19 +37,23 @@ module _ (layout : Layout) (covered next : ℕ) (value reached : AuctionValue) (
         let here : IsOpen layout (covered + k) image = subst (λ (i : ℕ). IsOpen layout i image) (sym sum) is_open in
         not_true (slice_index_or gates k false) (shut k (omega (arith, least)) (omega (arith, below, sum))) ((are k (omega (arith, below, sum, to))).1 here)
 
-    pub whole : IsWhole layout covered value image next (covered + place) gates reached
-    whole = record {
-      leads = leads;
-      ended = λ b least below own. elim (cases_lt b (covered + length known)) [
-        | inl before ↦ replayed.ended b least before own
-        | inr behind ↦ none b behind below own
-      ];
-      clean_ones = record {
-        from = omega (arith, from, leads.count);
-        to = omega (arith, to, all);
-        shut = closed;
-        first = λ less. (are place (omega (arith, less, all))).0 (up (omega (arith, less, all)));
-      };
-      gates = are;
-      all = all;
-    }
+    pub whole : IsWhole layout covered value image next reached × AreKnown layout covered image next (covered + place) gates
+    whole = (
+      record {
+        leads = leads;
+        ended = λ b least below own. elim (cases_lt b (covered + length known)) [
+          | inl before ↦ replayed.ended b least before own
+          | inr behind ↦ none b behind below own
+        ];
+      },
+      record {
+        clean_ones = record {
+          from = omega (arith, from, leads.count);
+          to = omega (arith, to, all);
+          shut = closed;
+          first = λ less. (are place (omega (arith, less, all))).0 (up (omega (arith, less, all)));
+        };
+        gates = are;
+        all = all;
+      },
+    )

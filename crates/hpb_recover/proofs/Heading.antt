@@ -2,15 +2,16 @@
 use Rattle.std.proofs.Common.{◌≡◌, ℕ, ◌%◌, ◌++◌, List, take, drop, length, sym, ◌∙◌, ap, subst, arith}
 use Rattle.std.proofs.lemmas.List.{take-take, take_at}
 use Rattle.std.specs.Prelude.{Result, Ok, Err, IfErr}
+use Rattle.hpb_disk.specs.Device.{Device}
 use Rattle.hpb_disk.specs.Images.{part}
 use Rattle.hpb_codec.specs.Heads.{SpellsHead, magic}
 use Rattle.hpb_codec.specs.Numbers.{before}
 use Rattle.hpb_codec.specs.declared.head.Head.{Head}
 use Rattle.hpb_recover.specs.Heads.{IsFormatted, IsLaidOut, layout_of}
 use Rattle.hpb_recover.specs.Beginnings.{Begins}
-use Rattle.hpb_recover.specs.Causes.{IsCauseAt, LooksFormatted}
+use Rattle.hpb_recover.specs.Causes.{IsCauseAt, IsTrueOf, LooksFormatted}
 use Rattle.hpb_recover.specs.declared.cause.Cause.{Cause}
-use Rattle.hpb_recover.specs.declared.cause.Cause.TheVariants.{Flawed, Memory, Device}
+use Rattle.hpb_recover.specs.declared.cause.Cause.TheVariants as causes
 
 front : (bytes image : List ℕ) → bytes ≡ take 12272 (drop 16 image) → before 8 bytes ≡ take 8 (drop 16 image)
 unfolding before
@@ -37,11 +38,11 @@ module _ (bytes : List ℕ) (len : ℕ) (image : List ℕ) (begins : Begins byte
   spelled_here head laid = subst (λ (l : List ℕ). SpellsHead l head) (sym begins.head) laid.spelled
 
 -- If no call can fail, the device isn't the cause.
-pub cause_at : {T : Type 0} (image : List ℕ) (failures later : ℕ) (result : Result T Cause) → IfErr result (IsCauseAt image 0 0) → IfErr result (IsCauseAt image failures later)
-cause_at image failures later (Ok value) is = tt
-cause_at image failures later (Err (Flawed flaw)) is = is
-cause_at image failures later (Err Memory) is = tt
-cause_at image failures later (Err Device) is = absurd (omega (arith, is))
+pub cause_at : {T : Type 0} (old new : Device) (result : Result T Cause) → IfErr result (IsTrueOf old.seen) → IfErr result (IsCauseAt old new)
+cause_at old new (Ok value) is = tt
+cause_at old new (Err (causes.Flawed flaw)) is = is
+cause_at old new (Err causes.Memory) is = tt
+cause_at old new (Err causes.Device) is = absurd is
 
 -- A read into all of a buffer leaves the bytes that were read.
 pub buffer_read : (out items image : List ℕ) (len n : ℕ) → length out ≡ len → n ≡ 12272 → out ≡ part 16 n image → take len (out ++ drop (length out) items) ≡ part 16 12272 image

@@ -27,9 +27,6 @@ module _ (layout : Layout) (covered : ℕ) (value : AuctionValue) (image : List 
   led_count = ap (λ (v : AuctionValue). v.count) leads.after ∙ (accepted_are_counted value (joined leads.batches) leads.accepted).0
 
 module _ (layout : Layout) (covered : ℕ) (value : AuctionValue) (image : List ℕ) where
-  pub leads_nowhere : Leads layout covered value image covered value
-  leads_nowhere = record { batches = []; count = omega arith; kept = tt; accepted = tt; after = refl }
-
   module _ (b first : ℕ) (reached : AuctionValue) (commands : List Command) (frame : IsFrame layout reached.rules b first commands image) where
     pub leads_on : KeptGoesOn layout → (later : AuctionValue) → Leads layout covered value image b reached → GoesOn reached first commands → later ≡ value_after reached commands
         → Leads layout covered value image (b + 1) later

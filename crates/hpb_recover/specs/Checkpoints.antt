@@ -5,6 +5,7 @@ use Rattle.hpb_rules.specs.declared.saved.Saved.{Saved}
 use Rattle.hpb_rules.specs.Tree.{Rules}
 use Rattle.hpb_rules.specs.AuctionValue.{AuctionValue}
 use Rattle.hpb_rules.specs.Saved.{restored}
+use Rattle.hpb_disk.specs.Device.{Device}
 use Rattle.hpb_recover.specs.declared.flaw.Flaw.TheVariants as flaws
 use Rattle.hpb_slots.specs.declared.newest.Newest.{Newest}
 use Rattle.hpb_slots.specs.Slots.{IsOpen, other_of}
@@ -22,7 +23,7 @@ pub record IsCheckpoint (rules : Rules) (found : Newest) (auction : AuctionValue
   pub other : IsTrue found.other_open ↔ IsOpen (other_of found.slot) image
 
 -- There is no checkpoint, or the machine failed.
-abbrev pub IsUnlessWithout : (rules : Rules) (image : List ℕ) (failures later : ℕ) → Cause → Type 0
-IsUnlessWithout rules image failures later (causes.Flawed flaw) = (flaw ≡ flaws.Checkpoint) × IsWithout rules image
-IsUnlessWithout rules image failures later causes.Memory = Unit {0}
-IsUnlessWithout rules image failures later causes.Device = failures < later
+abbrev pub IsUnlessWithout : (rules : Rules) (old new : Device) → Cause → Type 0
+IsUnlessWithout rules old new (causes.Flawed flaw) = (flaw ≡ flaws.Checkpoint) × IsWithout rules old.seen
+IsUnlessWithout rules old new causes.Memory = Unit {0}
+IsUnlessWithout rules old new causes.Device = old.failures < new.failures

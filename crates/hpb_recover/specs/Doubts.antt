@@ -1,19 +1,12 @@
 -- Findings that no honest device has, though it opens.
-use Rattle.std.specs.Prelude.{◌≡◌, ℕ, suc, ◌+◌, ◌<◌, ◌≤◌, List, Option, None, Some, MatchOption}
-use Rattle.hpb_rules.specs.Tree.{Rules}
-use Rattle.hpb_codec.specs.States.{count_in}
+use Rattle.std.specs.Prelude.{ℕ, suc, ◌+◌, ◌<◌, ◌≤◌, List, Option, None, Some}
 use Rattle.hpb_journal.specs.Frames.{IsOwn, IsRead}
-use Rattle.hpb_slots.specs.declared.slot.Slot.{Slot}
-use Rattle.hpb_slots.specs.Slots.{IsBroken, body_of, other_of}
+use Rattle.hpb_slots.specs.Reading.{IsToldOf}
+use Rattle.hpb_slots.specs.Slots.{other_of}
 use Rattle.hpb_recover.specs.Plans.{layout_in}
 use Rattle.hpb_recover.specs.Replaying.{NoneIsOwn}
 use Rattle.hpb_recover.specs.declared.doubts.Later.{Later}
 use Rattle.hpb_recover.specs.declared.plan.Plan.{Plan}
-
--- The finding about a slot is right: if the slot is open and its body spells no state, the count in the body's bytes.
-abbrev pub IsToldOf : Rules → Slot → List ℕ → Option ℕ → Type 0
-IsToldOf rules slot image told =
-    MatchOption told (IsBroken rules slot image → ⊥) (λ count. IsBroken rules slot image × (count ≡ count_in (body_of slot image)))
 
 -- The finding is about the slot beside the one whose checkpoint was opened.
 abbrev pub IsSlotTold : Plan → List ℕ → Option ℕ → Type 0

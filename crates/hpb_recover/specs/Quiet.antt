@@ -3,24 +3,25 @@ use Rattle.std.specs.Prelude.{◌≡◌, ℕ, ◌+◌, ◌-◌, ◌*◌, ◌/◌
 use Rattle.hpb_codec.specs.Layouts.{layout_byte}
 use Rattle.hpb_codec.specs.Numbers.{value}
 use Rattle.hpb_codec.specs.declared.layout.JournalLayout.TheVariants as layouts
+use Rattle.hpb_disk.specs.Device.{Device}
 use Rattle.hpb_disk.specs.Images.{part, Within}
 use Rattle.hpb_journal.specs.Shapes.{frame_bytes}
 use Rattle.hpb_journal.specs.declared.limits.TheConstants.{JOURNAL_AT}
 use Rattle.hpb_recover.specs.declared.limits.TheConstants.{HEAD_AT, MAGIC_BYTES}
 
 -- Since each earlier moment a crash may leave the same images as before these calls, no more and no less.
-pub record LeavesNothingNew (before now : ℕ) (past since : ℕ → List ℕ → Type 0) : Type 0 where
-  pub later : before ≤ now
-  pub nothing_else : (moment : ℕ) → moment ≤ before → Within (since moment) (past moment)
-  pub keeps : (moment : ℕ) → moment ≤ before → Within (past moment) (since moment)
+pub record LeavesNothingNew (old new : Device) : Type 0 where
+  pub later : old.moment ≤ new.moment
+  pub nothing_else : (moment : ℕ) → moment ≤ old.moment → Within (new.left_since moment) (old.left_since moment)
+  pub keeps : (moment : ℕ) → moment ≤ old.moment → Within (old.left_since moment) (new.left_since moment)
 
 -- Reads give the same as before. A crash leaves no new image, now or since an earlier moment. There were at most
 -- `calls` calls of the device.
-pub record IsQuiet {D : Type 0} (seen : D → List ℕ) (may_leave : D → List ℕ → Type 0) (moment : D → ℕ) (left_since : D → ℕ → List ℕ → Type 0) (calls : ℕ) (old new : D) : Type 0 where
-  pub same : seen new ≡ seen old
-  pub crash : Within (may_leave new) (may_leave old)
-  pub since : LeavesNothingNew (moment old) (moment new) (left_since old) (left_since new)
-  pub few : moment new ≤ moment old + calls
+pub record IsQuiet (calls : ℕ) (old new : Device) : Type 0 where
+  pub same : new.seen ≡ old.seen
+  pub crash : Within new.may_leave old.may_leave
+  pub since : LeavesNothingNew old new
+  pub few : new.moment ≤ old.moment + calls
 
 -- The byte of an image by which its head names a layout.
 abbrev pub layout_byte_in : List ℕ → ℕ

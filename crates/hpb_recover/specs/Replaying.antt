@@ -1,5 +1,5 @@
 -- How far the batches of a journal lead from a value.
-use Rattle.std.specs.Prelude.{◌≡◌, ◌↔◌, ℕ, suc, ◌+◌, ◌<◌, ◌≤◌, Bool, false, IsTrue, List, length, slice_index_or}
+use Rattle.std.specs.Prelude.{◌≡◌, ◌↔◌, ℕ, suc, ◌+◌, ◌<◌, ◌≤◌, Bool, false, IsTrue, List, Option, MatchBool, MatchOption, length, slice_index_or}
 use Rattle.hpb_rules.specs.declared.command.Command.{Command}
 use Rattle.hpb_rules.specs.Tree.{Rules}
 use Rattle.hpb_rules.specs.AuctionValue.{AuctionValue}
@@ -8,6 +8,7 @@ use Rattle.hpb_rules.specs.AcceptedRuns.{AllAccepted}
 use Rattle.hpb_journal.specs.Layouts.{Layout}
 use Rattle.hpb_journal.specs.Frames.{IsFrame, IsOpen, IsOwn, Kept}
 use Rattle.hpb_rules.specs.Fronts.{joined}
+use Rattle.hpb_recover.specs.declared.journal.Journal.{Journal}
 
 -- A batch continues from a value if it is numbered on and each of its commands is newly accepted.
 abbrev pub GoesOn : AuctionValue → ℕ → List Command → Type 0
@@ -64,6 +65,18 @@ pub record IsClean (layout : Layout) (next end clean : ℕ) (image : List ℕ) :
   pub shut : (b : ℕ) → next ≤ b → b < clean → IsOpen layout b image → ⊥
   pub first : clean < end → IsOpen layout clean image
 
+-- The result of taking in batch after batch: the index behind the last one, or none if the journal breaks off.
+abbrev pub Replays : Layout → (covered : ℕ) → AuctionValue → (image : List ℕ) → (gates : List Bool) → (reached : AuctionValue) → Option ℕ → Type 0
+Replays layout covered value image gates reached next =
+    MatchOption next (HasBrokenOff layout covered value image) (λ next. Leads layout covered value image next reached × IsReplayed layout covered next gates image)
+
+-- The result of reading the frames behind those whose gates are known: the gates of all, unless one of them is open with
+-- its own index.
+abbrev pub ReadsRest : Layout → (covered : ℕ) → (known gates : List Bool) → (image : List ℕ) → Bool → Type 0
+ReadsRest layout covered known gates image sound = MatchBool sound
+    (AreGates layout covered gates image × (length gates ≡ layout.count) × NoneIsOwn layout (covered + length known) (covered + layout.count) image)
+    (OneIsOwn layout (covered + length known) (covered + layout.count) image)
+
 -- Reading stops, though that frame or a later one is open with its own index.
 pub record IsBroken (layout : Layout) (covered : ℕ) (value : AuctionValue) (image : List ℕ) : Type 0 where
   pub next : ℕ
@@ -72,10 +85,18 @@ pub record IsBroken (layout : Layout) (covered : ℕ) (value : AuctionValue) (im
   pub stopped : HasStopped layout value.rules next reached image
   pub later : OneIsOwn layout next (covered + layout.count) image
 
--- All batches were read, and the frames behind them.
-pub record IsWhole (layout : Layout) (covered : ℕ) (value : AuctionValue) (image : List ℕ) (next clean : ℕ) (known : List Bool) (reached : AuctionValue) : Type 0 where
+-- All batches were read: no frame behind them is open with its own index.
+pub record IsWhole (layout : Layout) (covered : ℕ) (value : AuctionValue) (image : List ℕ) (next : ℕ) (reached : AuctionValue) : Type 0 where
   pub leads : Leads layout covered value image next reached
   pub ended : NoneIsOwn layout next (covered + layout.count) image
+
+-- The frames behind the batches were read, too: which are clean, and the gates of all frames.
+pub record AreKnown (layout : Layout) (covered : ℕ) (image : List ℕ) (next clean : ℕ) (known : List Bool) : Type 0 where
   pub clean_ones : IsClean layout next (covered + layout.count) clean image
   pub gates : AreGates layout covered known image
   pub all : length known ≡ layout.count
+
+-- The result of reading a journal behind a checkpoint: its contents, or none if it is broken.
+abbrev pub ReadsJournal : Layout → (covered : ℕ) → AuctionValue → (image : List ℕ) → (reached : AuctionValue) → Option Journal → Type 0
+ReadsJournal layout covered value image reached found = MatchOption found (IsBroken layout covered value image)
+    (λ journal. IsWhole layout covered value image journal.next reached × AreKnown layout covered image journal.next journal.clean_end journal.gates.items)

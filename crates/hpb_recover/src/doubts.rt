@@ -1,7 +1,6 @@
 //! Findings that no honest device has, though it opens: they show that its newest checkpoint was damaged.
-ghost use Rattle.std.specs.Prelude.{◌≡◌, ℕ, List, [], MatchBool, ◌+◌, ◌≤◌, IfErr, IfOk, OnOk};
-ghost use Rattle.hpb_disk.specs.Asked.{Asks};
-ghost use Rattle.hpb_disk.specs.Images.{CountsFailure};
+ghost use Rattle.std.specs.Prelude.{◌≡◌, ℕ, List, [], MatchBool, ◌+◌, ◌≤◌, IfErr, IfOk};
+ghost use Rattle.hpb_disk.specs.Device.{MakesReads};
 ghost use Rattle.hpb_recover.specs.Causes.{HasCause, OnlyReads};
 ghost use Rattle.hpb_journal.specs.Frames.{IsOwn, IsRead};
 ghost use Rattle.hpb_recover.specs.Doubts.{IsFrameTold, IsSlotTold};
@@ -40,14 +39,12 @@ pub struct Doubts {
 /// and a frame that is open with an index past the room of the opened checkpoint. It only reads, each of the frames and
 /// the other slot once.
 pub fn find_doubts<D: Disk>(alloc: Global, disk: &mut D, plan: &Plan) -> Result<Doubts, Cause>
-    requires { IsPlan plan.now (D.seen disk.old) }
-    ensures slot { IfOk result (λ doubts. IsSlotTold plan.now (D.seen disk.old) doubts.slot) }
-    ensures frame { IfOk result (λ doubts. IsFrameTold plan.now (D.seen disk.old) doubts.frame) }
-    ensures quiet { IsQuiet D.seen D.may_leave D.moment D.left_since (2 + (layout_in plan.now).count) disk.old disk.new }
-    ensures works { OnOk result (D.failures disk.new ≡ D.failures disk.old) }
+    requires { IsPlan plan.now (D.device disk.old).seen }
+    ensures slot { IfOk result (λ doubts. IsSlotTold plan.now (D.device disk.old).seen doubts.slot) }
+    ensures frame { IfOk result (λ doubts. IsFrameTold plan.now (D.device disk.old).seen doubts.frame) }
     // No write and no sync is asked for.
-    ensures asked { OnlyReads result (D.asked disk.old) (D.asked disk.new) }
-    ensures cause { IfErr result (HasCause (D.failures disk.old) (D.failures disk.new)) }
+    ensures reads { OnlyReads result (2 + (layout_in plan.now).count) (D.device disk.old) (D.device disk.new) }
+    ensures cause { IfErr result (HasCause (D.device disk.old) (D.device disk.new)) }
 {
     let mut body = vec![in alloc; 0; STATE_SIZE]?;
     let mut saved = nothing_saved();
@@ -78,11 +75,10 @@ fn is_own(plan: &Plan, frame: &Frame) -> bool
 /// The last frame that is open with an index past the room of the checkpoint that was opened.
 #[tactic(auto, using(crate::proofs::Doubting::kept_on, crate::proofs::Doubting::latest))]
 fn find_later<D: Disk>(disk: &mut D, plan: &Plan) -> Result<Option<Later>, DiskFailed>
-    requires { IsPlan plan.now (D.seen disk.old) }
-    ensures frame { IfOk result (IsFrameTold plan.now (D.seen disk.old)) }
-    ensures quiet { IsQuiet D.seen D.may_leave D.moment D.left_since ((layout_in plan.now).count) disk.old disk.new }
-    ensures asked { Asks result [] (D.asked disk.old) (D.asked disk.new) }
-    ensures cause { CountsFailure result (D.failures disk.old) (D.failures disk.new) }
+    requires { IsPlan plan.now (D.device disk.old).seen }
+    ensures frame { IfOk result (IsFrameTold plan.now (D.device disk.old).seen) }
+    ensures quiet { IsQuiet (layout_in plan.now).count (D.device disk.old) (D.device disk.new) }
+    ensures reads { MakesReads result (layout_in plan.now).count (D.device disk.old) (D.device disk.new) }
 {
     let frames = &plan.frames;
     frames.laws();

@@ -1,9 +1,8 @@
 //! The journal behind a checkpoint.
-ghost use Rattle.std.specs.Prelude.{◌≡◌, ◌+◌, ◌≤◌, ◌*◌, length, IfErr, IfOk, MatchOption, OnOk};
+ghost use Rattle.std.specs.Prelude.{◌≤◌, length, IfErr, IfOk};
 ghost use Rattle.hpb_rules.specs.declared.limits.TheConstants.{MOST_COMMANDS};
 ghost use Rattle.hpb_recover.specs.Causes.{HasCause, OnlyReads};
-ghost use Rattle.hpb_recover.specs.Quiet.{IsQuiet};
-ghost use Rattle.hpb_recover.specs.Replaying.{IsBroken, IsWhole};
+ghost use Rattle.hpb_recover.specs.Replaying.{ReadsJournal};
 
 use crate::Cause;
 use crate::replay::replay;
@@ -34,14 +33,10 @@ pub(crate) fn read_journal<D: Disk, F: Frames>(
     auction: &mut Auction,
 ) -> Result<Option<Journal>, Cause>
     requires index { covered ≤ MOST_COMMANDS }
-    requires room { (F.layout frames.now).size ≤ length (D.seen disk.old) }
-    ensures journal { IfOk result (λ found. MatchOption found
-        (IsBroken (F.layout frames.now) covered auction.old (D.seen disk.old))
-        (λ journal. IsWhole (F.layout frames.now) covered auction.old (D.seen disk.old) journal.next journal.clean_end journal.gates.items auction.new)) }
-    ensures quiet { IsQuiet D.seen D.may_leave D.moment D.left_since (F.layout frames.now).count disk.old disk.new }
-    ensures works { OnOk result (D.failures disk.new ≡ D.failures disk.old) }
-    ensures asked { OnlyReads result (D.asked disk.old) (D.asked disk.new) }
-    ensures cause { IfErr result (HasCause (D.failures disk.old) (D.failures disk.new)) }
+    requires room { (F.layout frames.now).size ≤ length (D.device disk.old).seen }
+    ensures journal { IfOk result (ReadsJournal (F.layout frames.now) covered auction.old (D.device disk.old).seen auction.new) }
+    ensures reads { OnlyReads result (F.layout frames.now).count (D.device disk.old) (D.device disk.new) }
+    ensures cause { IfErr result (HasCause (D.device disk.old) (D.device disk.new)) }
 {
     frames.laws();
     let mut gates = Vec::new(alloc);

@@ -1,6 +1,6 @@
 //! An opened device.
 ghost use Rattle.std.specs.Prelude.{◌≡◌, ◌+◌};
-ghost use Rattle.hpb_disk.specs.Images.{Only};
+ghost use Rattle.hpb_disk.specs.Device.{IsSettled};
 ghost use Rattle.hpb_recover.specs.Plans.{IsPlan};
 
 use crate::Plan;
@@ -12,8 +12,8 @@ use hpb_disk::Disk;
 pub struct Opened<D: Disk + Drop> {
     pub disk: D,
     pub plan: Plan,
-    pub ghost durable: { Only (D.seen disk) (D.may_leave disk) },
-    pub ghost read: { IsPlan plan (D.seen disk) },
+    pub ghost durable: { IsSettled (D.device disk) },
+    pub ghost read: { IsPlan plan (D.device disk).seen },
 }
 
 impl<D: Disk + Drop> Opened<D> {

@@ -1,17 +1,16 @@
 //! Opening a device.
-ghost use Rattle.std.specs.Prelude.{◌≡◌, ◌+◌, ◌≤◌, List, [], ◌∷◌, IfErr, IfOk, IsErrAnd, MatchResult, OnOk};
+ghost use Rattle.std.specs.Prelude.{◌≡◌, ◌+◌, List, [], ◌∷◌, IfErr, IfOk, IsErrAnd, MatchResult, OnOk};
 ghost use Rattle.hpb_rules.specs.declared.command.Command.{Command};
 ghost use Rattle.hpb_rules.specs.AuctionValue.{Shows};
 ghost use Rattle.hpb_recover.specs.declared.flaw.Flaw.{Flaw};
 ghost use Rattle.hpb_recover.specs.Flaws.{HasFlaw};
 ghost use Rattle.hpb_recover.specs.Standing.{Stands};
 ghost use Rattle.hpb_recover.specs.Readings.{Found, Reads};
-ghost use Rattle.hpb_disk.specs.Asked.{Asks};
 ghost use Rattle.hpb_disk.specs.Asked.Asked.{syncs};
-ghost use Rattle.hpb_disk.specs.Images.{CountsFailure, Only, Within};
+ghost use Rattle.hpb_disk.specs.Device.{IsSettled, MakesCall};
 ghost use Rattle.hpb_recover.specs.Causes.{ended_by, AsksMemory, IsCauseAt, IsMachine, IsUnlessMachine, OnlyReads};
 ghost use Rattle.hpb_recover.specs.Plans.{HasClean, IsPlan, IsPlanOf};
-ghost use Rattle.hpb_recover.specs.Quiet.{IsQuiet, LeavesNothingNew, reads_in};
+ghost use Rattle.hpb_recover.specs.Quiet.{IsQuiet, reads_in};
 
 use crate::checkpoint::{Checkpoint, read_checkpoint};
 use crate::head::read_head;
@@ -27,23 +26,20 @@ use std::alloc::Global;
 
 /// Syncs, so that a crash leaves the bytes that are read next.
 fn settle<D: Disk>(disk: &mut D) -> Result<(), DiskFailed>
-    ensures settled { OnOk result (Only (D.seen disk.new) (D.may_leave disk.new)) }
-    ensures quiet { IsQuiet D.seen D.may_leave D.moment D.left_since 1 disk.old disk.new }
-    ensures cause { CountsFailure result (D.failures disk.old) (D.failures disk.new) }
-    ensures asked { Asks result (syncs ∷ []) (D.asked disk.old) (D.asked disk.new) }
+    ensures settled { OnOk result (IsSettled (D.device disk.new)) }
+    ensures quiet { IsQuiet 1 (D.device disk.old) (D.device disk.new) }
+    ensures call { MakesCall result (syncs ∷ []) (D.device disk.old) (D.device disk.new) }
 {
     disk.sync()
 }
 
 /// Reads all of a device.
 fn read_plan<D: Disk>(alloc: Global, disk: &mut D) -> Result<Plan, Cause>
-    ensures found { IfOk result (λ plan. (found : Found) × Reads found (D.seen disk.old) × IsPlanOf plan found) }
-    ensures plan { IfOk result (λ plan. IsPlan plan (D.seen disk.old)) }
-    ensures quiet { IsQuiet D.seen D.may_leave D.moment D.left_since (reads_in (D.seen disk.old)) disk.old disk.new }
-    ensures works { OnOk result (D.failures disk.new ≡ D.failures disk.old) }
-    ensures asked { OnlyReads result (D.asked disk.old) (D.asked disk.new) }
-    ensures memory { IfErr result (AsksMemory (D.seen disk.old)) }
-    ensures cause { IfErr result (IsCauseAt (D.seen disk.old) (D.failures disk.old) (D.failures disk.new)) }
+    ensures found { IfOk result (λ plan. (found : Found) × Reads found (D.device disk.old).seen × IsPlanOf plan found) }
+    ensures plan { IfOk result (λ plan. IsPlan plan (D.device disk.old).seen) }
+    ensures reads { OnlyReads result (reads_in (D.device disk.old).seen) (D.device disk.old) (D.device disk.new) }
+    ensures memory { IfErr result (AsksMemory (D.device disk.old).seen) }
+    ensures cause { IfErr result (IsCauseAt (D.device disk.old) (D.device disk.new)) }
 {
     reading_is_one();
     layout_is_named();
@@ -77,35 +73,28 @@ fn read_plan<D: Disk>(alloc: Global, disk: &mut D) -> Result<Plan, Cause>
 /// 45 `frame`; for the machine it is 90 `memory` or 91 `device`.
 pub fn open<D: Disk + Drop>(alloc: Global, disk: D) -> Result<Opened<D>, OpenFault<D>>
     // If the bytes that a read gives stand for a history, the auction shows it, unless the device or memory fails.
-    ensures shows { (history : List Command) → Stands history (D.seen disk) → IfOk result (λ opened. Shows opened.plan.auction history) }
-    ensures stands { (history : List Command) → Stands history (D.seen disk) → IfErr result (λ fault. IsMachine fault.cause) }
+    ensures shows { (history : List Command) → Stands history (D.device disk).seen → IfOk result (λ opened. Shows opened.plan.auction history) }
+    ensures stands { (history : List Command) → Stands history (D.device disk).seen → IfErr result (λ fault. IsMachine fault.cause) }
     // The opened plan is that of the complete reading, whether the bytes stand for a history or not.
-    ensures read { IfOk result (λ opened. (found : Found) × Reads found (D.seen disk) × IsPlanOf opened.plan found) }
+    ensures read { IfOk result (λ opened. (found : Found) × Reads found (D.device disk).seen × IsPlanOf opened.plan found) }
     // A flaw is reported if and only if the bytes have it, unless the device or memory fails. A failed device has
     // counted the failure.
-    ensures refused { IfErr result (λ fault. IsCauseAt (D.seen disk) (D.failures disk) (D.failures fault.disk) fault.cause) }
-    ensures exact { (flaw : Flaw) → HasFlaw flaw (D.seen disk) → IsErrAnd result (λ fault. IsUnlessMachine flaw fault.cause) }
+    ensures refused { IfErr result (λ fault. IsCauseAt (D.device disk) (D.device fault.disk) fault.cause) }
+    ensures exact { (flaw : Flaw) → HasFlaw flaw (D.device disk).seen → IsErrAnd result (λ fault. IsUnlessMachine flaw fault.cause) }
     // An opened device was read at the first try: no call has failed.
-    ensures works { IfOk result (λ opened. D.failures opened.disk ≡ D.failures disk) }
+    ensures works { IfOk result (λ opened. (D.device opened.disk).failures ≡ (D.device disk).failures) }
     // No memory is asked for before the length and the head's gate were checked.
-    ensures memory { IfErr result (λ fault. AsksMemory (D.seen disk) fault.cause) }
-    ensures clean { IfOk result (λ opened. HasClean opened.plan (D.seen disk)) }
-    // Nothing is written.
-    ensures same { IfOk result (λ opened. D.seen opened.disk ≡ D.seen disk) }
-    ensures handed_back { IfErr result (λ fault. D.seen fault.disk ≡ D.seen disk) }
-    ensures crash { IfErr result (λ fault. Within (D.may_leave fault.disk) (D.may_leave disk)) }
-    // Since each earlier moment, too, a crash may leave the same images as before the call.
-    ensures since { MatchResult result
-        (λ opened. LeavesNothingNew (D.moment disk) (D.moment opened.disk) (D.left_since disk) (D.left_since opened.disk))
-        (λ fault. LeavesNothingNew (D.moment disk) (D.moment fault.disk) (D.left_since disk) (D.left_since fault.disk)) }
-    // There is one sync, and each byte is read at most once.
-    ensures calls { MatchResult result
-        (λ opened. D.moment opened.disk ≤ D.moment disk + 1 + reads_in (D.seen disk))
-        (λ fault. D.moment fault.disk ≤ D.moment disk + 1 + reads_in (D.seen disk)) }
+    ensures memory { IfErr result (λ fault. AsksMemory (D.device disk).seen fault.cause) }
+    ensures clean { IfOk result (λ opened. HasClean opened.plan (D.device disk).seen) }
+    // Nothing is written. A crash, within the call too, leaves nothing new. There are at most as
+    // many calls as one sync and a read of each part.
+    ensures quiet { MatchResult result
+        (λ opened. IsQuiet (1 + reads_in (D.device disk).seen) (D.device disk) (D.device opened.disk))
+        (λ fault. IsQuiet (1 + reads_in (D.device disk).seen) (D.device disk) (D.device fault.disk)) }
     // Besides reads there is that sync alone. One call failed if the device is the cause, and none otherwise.
     ensures asked { MatchResult result
-        (λ opened. D.asked opened.disk ≡ syncs ∷ D.asked disk)
-        (λ fault. D.asked fault.disk ≡ ended_by fault.cause (syncs ∷ D.asked disk)) }
+        (λ opened. (D.device opened.disk).asked ≡ syncs ∷ (D.device disk).asked)
+        (λ fault. (D.device fault.disk).asked ≡ ended_by fault.cause (syncs ∷ (D.device disk).asked)) }
 {
     stands_is_read();
     read_is_shown();

@@ -1,10 +1,9 @@
 //! The batches after a checkpoint.
-ghost use Rattle.std.specs.Prelude.{◌≡◌, ◌+◌, ◌≤◌, ◌∷◌, [], length, IfErr, IfOk, MatchBool, MatchOption, OnOk, OnSome};
+ghost use Rattle.std.specs.Prelude.{◌≡◌, ◌+◌, ◌≤◌, ◌∷◌, [], length, IfErr, IfOk, MatchBool, OnSome};
 ghost use Rattle.hpb_rules.specs.declared.limits.TheConstants.{MOST_COMMANDS};
 ghost use Rattle.hpb_rules.specs.Values.{value_after};
 ghost use Rattle.hpb_rules.specs.AcceptedRuns.{AllAccepted};
-ghost use Rattle.hpb_recover.specs.Quiet.{IsQuiet};
-ghost use Rattle.hpb_recover.specs.Replaying.{GoesOn, HasBrokenOff, IsReplayed, Leads};
+ghost use Rattle.hpb_recover.specs.Replaying.{GoesOn, Replays};
 ghost use Rattle.hpb_recover.specs.Causes.{HasCause, OnlyReads};
 
 use crate::Cause;
@@ -64,18 +63,13 @@ pub(crate) fn replay<D: Disk, F: Frames>(
     gates: &mut Vec<bool>,
 ) -> Result<Option<u64>, Cause>
     requires most { covered ≤ MOST_COMMANDS }
-    requires room { (F.layout frames.now).size ≤ length (D.seen disk.old) }
+    requires room { (F.layout frames.now).size ≤ length (D.device disk.old).seen }
     requires none { gates.old.items ≡ [] }
-    ensures next { IfOk result (λ next. MatchOption next
-        (HasBrokenOff (F.layout frames.now) covered auction.old (D.seen disk.old))
-        (λ next. Leads (F.layout frames.now) covered auction.old (D.seen disk.old) next auction.new
-        × IsReplayed (F.layout frames.now) covered next gates.new.items (D.seen disk.old))) }
-    ensures quiet { IsQuiet D.seen D.may_leave D.moment D.left_since (F.layout frames.now).count disk.old disk.new }
+    ensures next { IfOk result (Replays (F.layout frames.now) covered auction.old (D.device disk.old).seen gates.new.items auction.new) }
+    ensures reads { OnlyReads result (F.layout frames.now).count (D.device disk.old) (D.device disk.new) }
     // One read for each gate that is known.
-    ensures each { IfOk result (λ next. OnSome next (D.moment disk.new ≤ D.moment disk.old + length gates.new.items)) }
-    ensures works { OnOk result (D.failures disk.new ≡ D.failures disk.old) }
-    ensures asked { OnlyReads result (D.asked disk.old) (D.asked disk.new) }
-    ensures cause { IfErr result (HasCause (D.failures disk.old) (D.failures disk.new)) }
+    ensures each { IfOk result (λ next. OnSome next ((D.device disk.new).moment ≤ (D.device disk.old).moment + length gates.new.items)) }
+    ensures cause { IfErr result (HasCause (D.device disk.old) (D.device disk.new)) }
 {
     kept_goes_on(frames);
     frames.laws();

@@ -1,9 +1,8 @@
 //! The frames behind the last batch.
-ghost use Rattle.std.specs.Prelude.{◌≡◌, ◌+◌, ◌-◌, ◌<◌, ◌≤◌, ℕ, Bool, true, false, length, slice_index_or, IfErr, IfOk, MatchBool, OnOk};
+ghost use Rattle.std.specs.Prelude.{◌≡◌, ◌-◌, ◌<◌, ◌≤◌, ℕ, Bool, true, false, length, slice_index_or, IfErr, IfOk};
 ghost use Rattle.hpb_rules.specs.declared.limits.TheConstants.{MOST_COMMANDS};
 ghost use Rattle.hpb_recover.specs.Causes.{HasCause, OnlyReads};
-ghost use Rattle.hpb_recover.specs.Quiet.{IsQuiet};
-ghost use Rattle.hpb_recover.specs.Replaying.{AreGates, NoneIsOwn, OneIsOwn};
+ghost use Rattle.hpb_recover.specs.Replaying.{AreGates, ReadsRest};
 
 use crate::Cause;
 use hpb_disk::Disk;
@@ -21,17 +20,11 @@ pub(crate) fn read_rest<D: Disk, F: Frames>(
 ) -> Result<bool, Cause>
     requires index { covered ≤ MOST_COMMANDS }
     requires most { length gates.old.items ≤ (F.layout frames.now).count }
-    requires room { (F.layout frames.now).size ≤ length (D.seen disk.old) }
-    requires known { AreGates (F.layout frames.now) covered gates.old.items (D.seen disk.old) }
-    ensures rest { IfOk result (λ sound. MatchBool sound
-        (AreGates (F.layout frames.now) covered gates.new.items (D.seen disk.old)
-        × (length gates.new.items ≡ (F.layout frames.now).count)
-        × NoneIsOwn (F.layout frames.now) (covered + length gates.old.items) (covered + (F.layout frames.now).count) (D.seen disk.old))
-        (OneIsOwn (F.layout frames.now) (covered + length gates.old.items) (covered + (F.layout frames.now).count) (D.seen disk.old))) }
-    ensures quiet { IsQuiet D.seen D.may_leave D.moment D.left_since ((F.layout frames.now).count - length gates.old.items) disk.old disk.new }
-    ensures works { OnOk result (D.failures disk.new ≡ D.failures disk.old) }
-    ensures asked { OnlyReads result (D.asked disk.old) (D.asked disk.new) }
-    ensures cause { IfErr result (HasCause (D.failures disk.old) (D.failures disk.new)) }
+    requires room { (F.layout frames.now).size ≤ length (D.device disk.old).seen }
+    requires known { AreGates (F.layout frames.now) covered gates.old.items (D.device disk.old).seen }
+    ensures rest { IfOk result (ReadsRest (F.layout frames.now) covered gates.old.items gates.new.items (D.device disk.old).seen) }
+    ensures reads { OnlyReads result ((F.layout frames.now).count - length gates.old.items) (D.device disk.old) (D.device disk.new) }
+    ensures cause { IfErr result (HasCause (D.device disk.old) (D.device disk.new)) }
 {
     frames.laws();
     let start = covered + gates.len() as u64;

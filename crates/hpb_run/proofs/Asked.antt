@@ -12,7 +12,7 @@ use Rattle.hpb_rules.specs.LetterLaws.{JudgedIsAnswered}
 use Rattle.hpb_rules.specs.Letters.{judged, new_commands}
 use Rattle.hpb_rules.specs.Tree.{Rules}
 use Rattle.hpb_server.specs.Desk.{AsksAll}
-use Rattle.hpb_run.specs.Device.{RepliesAt, State, failed, failing, left_of, never_over, works}
+use Rattle.hpb_run.specs.Device.{RepliesAt, State, device_ways, failed, failing, left_of, works}
 use Rattle.hpb_run.specs.Standing.{letter_of, refused, reply_of}
 
 -- The letters of commands have these commands, and are as many.
@@ -50,7 +50,7 @@ answered_state state past commands = record state { history = reverse (past_from
 
 -- All are answered by the rules.
 pub all_by_rules : (state : State) (past commands : List Command) → state.phase ≡ works → reverse state.history ≡ past
-    → AsksAll RepliesAt never_over state commands (replies_from state.rules past commands) (answered_state state past commands)
+    → AsksAll device_ways state commands (replies_from state.rules past commands) (answered_state state past commands)
 all_by_rules state past [] at_work is =
     (ap (λ (history : List Command). record state { history = history }) (ap reverse (sym is) ∙ reverse-reverse state.history), refl)
 all_by_rules state past (command ∷ commands) at_work is =
@@ -69,18 +69,18 @@ all_by_rules state past (command ∷ commands) at_work is =
 
 -- One is refused, and then all behind it.
 refused_more : (state next last : State) (command : Command) (commands : List Command) (refusal : Refusal) → RepliesAt state command (replies.Refused refusal) next
-    → AsksAll RepliesAt never_over next commands (refused (length commands) refusal) last → AsksAll RepliesAt never_over state (command ∷ commands) (refused (suc (length commands)) refusal) last
+    → AsksAll device_ways next commands (refused (length commands) refusal) last → AsksAll device_ways state (command ∷ commands) (refused (suc (length commands)) refusal) last
 refused_more state next last command commands refusal one rest = inr (refl, replies.Refused refusal, refused (length commands) refusal, next, one, rest, refl)
 
 -- All are refused by 93, from the first 93 on.
 all_failed : (state : State) (commands : List Command)
-    → AsksAll RepliesAt never_over (record state { phase = failed }) commands (refused (length commands) refusals.Failed) (record state { phase = failed })
+    → AsksAll device_ways (record state { phase = failed }) commands (refused (length commands) refusals.Failed) (record state { phase = failed })
 all_failed state [] = (refl, refl)
 all_failed state (command ∷ commands) =
     let next : State = record state { phase = failed } in refused_more next next next command commands refusals.Failed (inr (inr (refl, refl, refl))) (all_failed state commands)
 
 pub some_failed : (state : State) (commands : List Command) → 0 < length commands → left_of state.phase ≡ 0
-    → AsksAll RepliesAt never_over state commands (refused (length commands) refusals.Failed) (record state { phase = failed })
+    → AsksAll device_ways state commands (refused (length commands) refusals.Failed) (record state { phase = failed })
 some_failed state [] some none = absurd (omega (arith, some))
 some_failed state (command ∷ commands) some none =
     let next : State = record state { phase = failed } in refused_more state next next command commands refusals.Failed (inr (inr (none, refl, refl))) (all_failed state commands)
@@ -90,14 +90,14 @@ abbrev failing_at : State → ℕ → State
 failing_at state left = record state { phase = failing left }
 
 all_failing : (state : State) (commands : List Command)
-    → AsksAll RepliesAt never_over (failing_at state (length commands)) commands (refused (length commands) refusals.Device) (failing_at state 0)
+    → AsksAll device_ways (failing_at state (length commands)) commands (refused (length commands) refusals.Device) (failing_at state 0)
 all_failing state [] = (refl, refl)
 all_failing state (command ∷ commands) =
     let left : ℕ = length commands in
     refused_more (failing_at state (suc left)) (failing_at state left) (failing_at state 0) command commands refusals.Device (inr (inl (left, inr refl, refl, refl))) (all_failing state commands)
 
 pub some_failing : (state : State) (commands : List Command) → state.phase ≡ works → 0 < length commands → length commands ≤ MOST_LETTERS
-    → AsksAll RepliesAt never_over state commands (refused (length commands) refusals.Device) (record state { phase = failing 0 })
+    → AsksAll device_ways state commands (refused (length commands) refusals.Device) (record state { phase = failing 0 })
 some_failing state [] at_work some most = absurd (omega (arith, some))
 some_failing state (command ∷ commands) at_work some most =
     let left : ℕ = length commands in

@@ -1,14 +1,18 @@
 -- The results of steps of a checkpoint.
-use Rattle.std.proofs.Common.{◌≡◌, ◌⊎◌, ⊎_elim, subst, ℕ, ◌+◌, ◌<◌, ◌≤◌, Bool, false, None, Ok, arith}
+use Rattle.std.proofs.Common.{◌≡◌, ◌⊎◌, ⊎_elim, subst, ℕ, ◌+◌, ◌<◌, ◌≤◌, false, None, Ok, length, refl, arith}
+use Rattle.std.specs.Prelude.{if◌then◌else◌}
 use Rattle.std.proofs.lemmas.Bool.Decides.{nat_tests}
 use Rattle.std.proofs.lemmas.Grind.{common_steps}
+use Rattle.hpb_disk.specs.declared.disk.Disk.{Ghosts}
+use Rattle.hpb_engine.specs.declared.engine.Engine.{Engine}
 use Rattle.hpb_engine.specs.declared.progress.Progress.{Progress}
 use Rattle.hpb_engine.specs.Numbers.{IsSafe, count_of}
 use Rattle.hpb_engine.specs.declared.step.Part.{Part}
 use Rattle.hpb_engine.specs.declared.step.Rest.{Rest}
 use Rattle.hpb_engine.specs.declared.step.Rest.TheVariants as rests
-use Rattle.hpb_engine.specs.Checkpoints.{CheckpointLeads, IsSettled, SameCore, StepLeads, aim, checkpoint_calls, step_calls, steps_left}
-use Rattle.hpb_run.specs.Takes.{IsBetween, MakesCheckpoint}
+use Rattle.hpb_engine.specs.Asking.{step_asks}
+use Rattle.hpb_engine.specs.Checkpoints.{CheckpointLeads, IsSettled, SameCore, StepLeads, aim, step_calls, steps_left}
+use Rattle.hpb_run.specs.Batches.{IsBetween, MakesCheckpoint, moment_of}
 
 -- **The numbers of a progress.** A step makes at most one call.
 few_calls : (s : Progress) → step_calls s ≤ 1
@@ -38,25 +42,30 @@ pub record Goes (s t : Progress) (before now : ℕ) : Type 0 where
   pub most : now + steps_left t ≤ before + steps_left s
   pub still : IsSettled s → (t ≡ s) × (now ≡ before)
 
+-- None yet.
+pub goes_self : (s : Progress) (now : ℕ) → Goes s s now now
+goes_self s now = record { same = record { committed = refl; commit = refl; next = refl; frames = refl }; aim = refl; least = omega arith; most = omega arith; still = λ at. (refl, refl) }
+
 -- One more: it is such a step too, or there was none left, or it is the last one.
-module _ (s t u : Progress) (before now after : ℕ) (goes : Goes s t before now) (safe : IsSafe t) (same : SameCore t u) (call : after ≡ now + step_calls t) where
-  pub goes_on : (part : Part) → StepLeads (Ok (rests.Went part)) t u → Goes s u before after
-  goes_on part leads = grind (arith, common_steps, few_calls t, none_left t safe)
+module _ {D : Type 0} {disk : Ghosts D} (old now new : Engine D disk) (works : now.failed ≡ false) (goes : Goes old.progress now.progress (moment_of old) (moment_of now)) (safe : IsSafe now.progress)
+    (same : SameCore now.progress new.progress) (calls : moment_of new ≡ moment_of now + (if now.failed then 0 else length (step_asks now.progress))) where
+  call : moment_of new ≡ moment_of now + step_calls now.progress
+  call = rw works at calls
 
-  made_before : (had failed : Bool) → failed ≡ false → StepLeads (Ok rests.Idle) t u → MakesCheckpoint s u before after had failed None
-  made_before had failed works leads = grind (arith, common_steps, calls_left t safe, none_left t safe, room_behind t safe, aims_at_all s)
+  pub goes_on : (part : Part) → StepLeads (Ok (rests.Went part)) now.progress new.progress → Goes old.progress new.progress (moment_of old) (moment_of new)
+  goes_on part leads = grind (arith, common_steps, few_calls now.progress, none_left now.progress safe, call)
 
-  made_now : (had failed : Bool) → failed ≡ false → StepLeads (Ok rests.Whole) t u → MakesCheckpoint s u before after had failed None
-  made_now had failed works leads = grind (arith, common_steps, calls_left t safe, none_left t safe, room_behind t safe, aims_at_all s)
+  made_before : new.failed ≡ false → StepLeads (Ok rests.Idle) now.progress new.progress → MakesCheckpoint old new None
+  made_before stays leads = grind (arith, common_steps, calls_left now.progress safe, none_left now.progress safe, room_behind now.progress safe, aims_at_all old.progress, call)
 
--- The step that was last leaves none behind it: a checkpoint is made.
-pub ended : {s t u : Progress} {before now after : ℕ} {had broken failed : Bool} {rest : Rest} → (rest ≡ rests.Idle) ⊎ (rest ≡ rests.Whole) → broken ≡ false
-    → Goes s t before now → IsSafe t → SameCore t u → after ≡ now + checkpoint_calls broken t → failed ≡ false → CheckpointLeads broken (Ok rest) t u
-    → MakesCheckpoint s u before after had failed None
-ended {s} {t} {u} {before} {now} {after} {had} {broken} {failed} {rest} ends works goes safe same calls stays leads =
-    let call : after ≡ now + step_calls t = rw works at calls in
-    let leads_on : CheckpointLeads false (Ok rest) t u = rw works at leads in
-    ⊎_elim
-    (λ (idle : rest ≡ rests.Idle). made_before s t u before now after goes safe same call had failed stays (subst (λ (r : Rest). StepLeads (Ok r) t u) idle leads_on.0))
-    (λ (whole : rest ≡ rests.Whole). made_now s t u before now after goes safe same call had failed stays (subst (λ (r : Rest). StepLeads (Ok r) t u) whole leads_on.0))
-    ends
+  made_now : new.failed ≡ false → StepLeads (Ok rests.Whole) now.progress new.progress → MakesCheckpoint old new None
+  made_now stays leads = grind (arith, common_steps, calls_left now.progress safe, none_left now.progress safe, room_behind now.progress safe, aims_at_all old.progress, call)
+
+  -- The step that was last leaves none behind it: a checkpoint is made.
+  pub ended : {rest : Rest} → (rest ≡ rests.Idle) ⊎ (rest ≡ rests.Whole) → new.failed ≡ false → CheckpointLeads now.failed (Ok rest) now.progress new.progress → MakesCheckpoint old new None
+  ended {rest} ends stays leads =
+      let leads_on : CheckpointLeads false (Ok rest) now.progress new.progress = rw works at leads in
+      ⊎_elim
+      (λ (idle : rest ≡ rests.Idle). made_before stays (subst (λ (r : Rest). StepLeads (Ok r) now.progress new.progress) idle leads_on.0))
+      (λ (whole : rest ≡ rests.Whole). made_now stays (subst (λ (r : Rest). StepLeads (Ok r) now.progress new.progress) whole leads_on.0))
+      ends

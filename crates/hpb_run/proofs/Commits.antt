@@ -7,10 +7,13 @@ use Rattle.hpb_rules.specs.declared.command.Command.{Command}
 use Rattle.hpb_rules.specs.declared.letter.Answer.{Answer}
 use Rattle.hpb_rules.specs.Machine.{at_rest, in_flight, offered, turn}
 use Rattle.hpb_engine.specs.declared.progress.Commit.{Commit}
+use Rattle.hpb_disk.specs.declared.disk.Disk.{Ghosts}
+use Rattle.hpb_engine.specs.declared.engine.Engine.{Engine}
 use Rattle.hpb_engine.specs.declared.progress.Progress.{Progress}
 use Rattle.hpb_engine.specs.declared.step.Fault.{Fault}
 use Rattle.hpb_engine.specs.declared.step.Fault.TheVariants as faults
-use Rattle.hpb_engine.specs.Keeping.{Keeps, flight_of}
+use Rattle.hpb_engine.specs.Engines.{Keeps}
+use Rattle.hpb_engine.specs.Keeping.{flight_of}
 use Rattle.hpb_engine.specs.Steps.{TurnLeads, turn_by}
 use Rattle.hpb_run.specs.Batches.{KeepsAnswered, fault_of}
 
@@ -33,11 +36,11 @@ module _ (history : List Command) (given : List Answer) where
   stays : (n : ℕ) → (turn false (in_flight history given n)).machine ≡ in_flight history given (if n == 2 then 3 else n)
   stays n = grind (arith, nat_tests)
 
-  pub failed_turn : {D : Type 0} {seen : D → List ℕ} {may_leave : D → List ℕ → Type 0} {disk : D} {t : Progress} {failed after : Bool} (s : Progress) (n : ℕ) (answers : List Answer) (fault : Fault) → failed ≡ false
-      → after ≡ true → TurnLeads failed (Err fault) s t → Keeps seen may_leave disk t after (turn_by (Err fault) (in_flight history given n)).machine
-      → t.committed.rules ≡ s.committed.rules → KeepsAnswered seen may_leave disk t after s.committed.rules history given answers (Some fault)
-  failed_turn s n answers faults.Device works off leads kept rules = (_, kept, (off, _, stays n), rules)
-  failed_turn s n answers faults.Failed works off leads kept rules = absurd (let not = leads.0 in cc)
+  pub failed_turn : {D : Type 0} {disk : Ghosts D} {failed : Bool} (engine : Engine D disk) (s : Progress) (n : ℕ) (answers : List Answer) (fault : Fault) → failed ≡ false → engine.failed ≡ true
+      → TurnLeads failed (Err fault) s engine.progress → Keeps engine (turn_by (Err fault) (in_flight history given n)).machine → engine.progress.committed.rules ≡ s.committed.rules
+      → KeepsAnswered s.committed.rules engine history given answers (Some fault)
+  failed_turn engine s n answers faults.Device works off leads kept rules = (_, kept, (off, _, stays n), rules)
+  failed_turn engine s n answers faults.Failed works off leads kept rules = absurd (let not = leads.0 in cc)
 
 pub failed_is : {T : Type 0} (result : Result T Fault) → fault_of result ≡ Some faults.Failed → result ≡ Err faults.Failed
 failed_is (Ok told) is = absurd (cc)

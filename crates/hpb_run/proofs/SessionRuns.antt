@@ -1,18 +1,19 @@
 -- The result of a session on a device, by how it was served.
-use Rattle.std.proofs.Common.{◌≡◌, ◌≢◌, ◌⊎◌, inl, inr, ℕ, ◌<◌, Bool, true, false, List, [], refl, ◌∙◌, subst, arith}
+use Rattle.std.proofs.Common.{◌≡◌, ◌≢◌, ◌⊎◌, inl, inr, ◌<◌, true, false, refl, ◌∙◌, subst, arith}
 use Rattle.std.specs.Prelude.{Result, Ok, Err, OnOk, ⊤}
 use Rattle.std.specs.Io.KnownBytes.{Appends}
-use Rattle.hpb_rules.specs.declared.command.Command.{Command}
-use Rattle.hpb_rules.specs.declared.limits.TheConstants.{MOST_LETTERS}
+use Rattle.hpb_rules.specs.declared.limits.TheConstants.{MOST_READ_BYTES}
 use Rattle.hpb_rules.specs.AuctionValue.{Shows}
-use Rattle.hpb_rules.specs.Tree.{Rules}
-use Rattle.hpb_engine.specs.declared.progress.Progress.{Progress}
+use Rattle.hpb_disk.specs.declared.disk.Disk.{Ghosts}
+use Rattle.hpb_engine.specs.declared.engine.Engine.{Engine}
+use Rattle.hpb_engine.specs.Engines.{running_of}
+use Rattle.hpb_engine.specs.Keeping.{Running}
 use Rattle.hpb_server.specs.declared.fault.SessionFault.{SessionFault}
 use Rattle.hpb_server.specs.ScriptLaws.{WritesText}
-use Rattle.hpb_server.specs.Serving.{Serves}
 use Rattle.hpb_server.specs.Streams.{Streams}
-use Rattle.hpb_run.specs.Device.{Phase, State, works, failing, failed, rules_at, never_over, RepliesAt, ShowsAt, IsAt, at_start}
-use Rattle.hpb_run.specs.Running.{RanDevice}
+use Rattle.hpb_run.specs.Device.{Phase, State, works, failing, failed, IsAt}
+use Rattle.hpb_run.specs.DeviceLaws.{Stays}
+use Rattle.hpb_run.specs.Running.{RanDevice, ServesFrom}
 use Rattle.hpb_run.proofs.DeviceSessions.{device_session_is_text}
 
 -- A phase is that of a device that works, unless it has failed.
@@ -28,39 +29,34 @@ first both = both.0
 second : {A B : Type 0} → A × B → B
 second both = both.1
 
-module _ {D : Type 0} (seen : D → List ℕ) (may_leave : D → List ℕ → Type 0) (failures : D → ℕ) (budget : ℕ) (before after : Streams)
-    (rules : Rules) (history : List Command) (failures_before : ℕ) (had_failed : Bool) (disk : D) (s : Progress) (has_failed : Bool) where
-  pub session_ran : (state : State) (result : Result ⊤ SessionFault)
-      → Serves rules_at never_over RepliesAt ShowsAt MOST_LETTERS true [] budget before after (at_start rules history failures_before had_failed) state result
-      → IsAt seen may_leave failures disk s has_failed state
-      → RanDevice seen may_leave failures budget before after rules history failures_before had_failed disk s has_failed result
-  session_ran state result serves stands =
-      let told = device_session_is_text budget before after (at_start rules history failures_before had_failed) state result refl serves in
-      record { state = state; writes = first told; stays = second told; stands = stands }
+-- No call has failed, so the device works.
+still_works : (start state : State) (run : Running) → IsAt run state → Stays start state → start.had_failed ≡ false → run.device.failures ≡ start.failures → state.phase ≡ works
+still_works start state run stands stays never none = by (works_or_not state.phase)
+  where
+    risen : (state.had_failed ≡ true) ⊎ (state.failures < run.device.failures) → ⊥
+    risen (inl had) = absurd (let on = stays.2 ∙ never in cc)
+    risen (inr more) = absurd (omega (arith, more, stays.1, none))
 
-  -- No call has failed, so the device works.
-  still_works : (state : State) → IsAt seen may_leave failures disk s has_failed state → state.failures ≡ failures_before → state.had_failed ≡ false → failures disk ≡ failures_before → state.phase ≡ works
-  still_works state stands since never none = by (works_or_not state.phase)
-    where
-      risen : (state.had_failed ≡ true) ⊎ (state.failures < failures disk) → ⊥
-      risen (inl had) = absurd (let on = never in cc)
-      risen (inr more) = absurd (omega (arith, more, since, none))
+    by : (state.phase ≡ works) ⊎ (state.phase ≢ works) → state.phase ≡ works
+    by (inl is) = is
+    by (inr not) = absurd (risen (stands.cause (stands.stopped not)))
 
-      by : (state.phase ≡ works) ⊎ (state.phase ≢ works) → state.phase ≡ works
-      by (inl is) = is
-      by (inr not) = absurd (risen (stands.cause (stands.stopped not)))
+module _ {D : Type 0} {disk : Ghosts D} (before after : Streams) (start : State) (engine : Engine D disk) where
+  pub session_ran : (end : Result ⊤ SessionFault) → start.phase ≡ works → ServesFrom before after start (running_of engine) end → RanDevice before after start engine end
+  session_ran end at ran =
+      let told = device_session_is_text MOST_READ_BYTES before after start ran.0 end at ran.1 in
+      record { state = ran.0; writes = first told; stays = second told; stands = ran.2 }
 
-  pub session_well : (result : Result ⊤ SessionFault) → RanDevice seen may_leave failures budget before after rules history failures_before had_failed disk s has_failed result
-      → had_failed ≡ false → failures disk ≡ failures_before → OnOk result (WritesText rules history budget before after s.committed)
+  pub session_well : (end : Result ⊤ SessionFault) → RanDevice before after start engine end → start.had_failed ≡ false → (disk.device engine.disk).failures ≡ start.failures
+      → OnOk end (WritesText start.rules start.history MOST_READ_BYTES before after engine.progress.committed)
   session_well (Err fault) ran never none = tt
   session_well (Ok done) ran never none =
-      let is = still_works ran.state ran.stands ran.stays.1 (ran.stays.2 ∙ never) none in
-      let told = ran.writes.by_rules is in
+      let told = ran.writes.by_rules (still_works start ran.state (running_of engine) ran.stands ran.stays never none) in
       record {
         input = ran.writes.input;
         read = ran.writes.read;
         ended = ran.writes.ended;
         within = ran.writes.within;
         written = subst (Appends before.contents after.contents) told.0 ran.writes.written;
-        shows = subst (Shows s.committed) (ran.stands.acknowledged ∙ told.1) ran.stands.keeps.shows;
+        shows = subst (Shows engine.progress.committed) (ran.stands.acknowledged ∙ told.1) ran.stands.keeps.shows;
       }

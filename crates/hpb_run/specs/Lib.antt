@@ -2,6 +2,4 @@ pub mod Device
 pub mod DeviceLaws
 pub mod Running
 pub mod Standing
-pub mod Telling
 pub mod Batches
-pub mod Takes

@@ -1,7 +1,7 @@
 //! The work that a desk gives its engine: commits and checkpoints.
 ghost use Rattle.std.specs.Prelude.{◌≡◌, ◌<◌, ◌≤◌, true, length, IfOk, OnErr};
 ghost use Rattle.hpb_rules.specs.declared.limits.TheConstants.{MOST_LETTERS};
-ghost use Rattle.hpb_run.specs.Takes.{IsBetween};
+ghost use Rattle.hpb_run.specs.Batches.{IsBetween};
 ghost use Rattle.hpb_run.specs.Device.{State};
 ghost use Rattle.hpb_run.specs.Standing.{AreAlike, HasAsked, IsCovered, StandsAt};
 
@@ -20,14 +20,12 @@ pub(crate) fn ask_engine<D: Disk + Drop>(
 ) -> Result<Replies, AllocError>
     requires some { 0 < length commands.now }
     requires most { length commands.now ≤ MOST_LETTERS }
-    ensures asked { (state : State) → StandsAt D.seen D.may_leave D.failures engine.old.disk engine.old.progress engine.old.failed state
-        → IfOk result (λ replies. HasAsked D.seen D.may_leave D.failures engine.new.disk engine.new.progress engine.new.failed state commands.now replies) }
-    // If the device fails, or had failed, all commands get one refusal. If it had worked, 93 says that none of them is
-    // kept.
-    ensures alike { (state : State) → StandsAt D.seen D.may_leave D.failures engine.old.disk engine.old.progress engine.old.failed state
-        → engine.new.failed ≡ true → IfOk result (AreAlike D.seen D.may_leave engine.new.disk engine.new.progress engine.new.failed state (length commands.now)) }
-    ensures kept { (state : State) → StandsAt D.seen D.may_leave D.failures engine.old.disk engine.old.progress engine.old.failed state
-        → OnErr result (StandsAt D.seen D.may_leave D.failures engine.new.disk engine.new.progress engine.new.failed state) }
+    ensures asked { (state : State) → StandsAt engine.old state → IfOk result (λ replies. HasAsked engine.new state commands.now replies) }
+    // If the device fails, or had failed, all commands get one refusal. 91 says that they are in flight. If the device
+    // had worked, 93 says that none of them is kept.
+    ensures alike { (state : State) → StandsAt engine.old state → engine.new.failed ≡ true
+        → IfOk result (AreAlike engine.new state commands.now) }
+    ensures kept { (state : State) → StandsAt engine.old state → OnErr result (StandsAt engine.new state) }
 {
     judged_is_answered();
     let count = commands.len();
@@ -40,10 +38,8 @@ pub(crate) fn ask_engine<D: Disk + Drop>(
 
 /// Makes a whole checkpoint, unless the device has failed.
 pub(crate) fn upkeep_engine<D: Disk + Drop>(engine: &mut Engine<D>)
-    ensures stands { (state : State) → StandsAt D.seen D.may_leave D.failures engine.old.disk engine.old.progress engine.old.failed state
-        → StandsAt D.seen D.may_leave D.failures engine.new.disk engine.new.progress engine.new.failed state }
-    ensures whole { (state : State) → StandsAt D.seen D.may_leave D.failures engine.old.disk engine.old.progress engine.old.failed state → IsBetween engine.old.progress
-        → IsCovered engine.old.progress engine.new.progress (D.moment engine.old.disk) (D.moment engine.new.disk) engine.new.failed }
+    ensures stands { (state : State) → StandsAt engine.old state → StandsAt engine.new state }
+    ensures whole { (state : State) → StandsAt engine.old state → IsBetween engine.old.progress → IsCovered engine.old engine.new }
 {
     if engine.failed {
         return;

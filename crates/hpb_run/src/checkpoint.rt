@@ -2,10 +2,13 @@
 ghost use Rattle.std.specs.Prelude.{◌≡◌, List, false};
 ghost use Rattle.hpb_rules.specs.declared.command.Command.{Command};
 ghost use Rattle.hpb_rules.specs.Machine.{Machine, at_rest};
-ghost use Rattle.hpb_engine.specs.Keeping.{Keeps};
+ghost use Rattle.hpb_disk.specs.Device.{LeavesOnly};
+ghost use Rattle.hpb_recover.specs.Standing.{Stands};
+ghost use Rattle.hpb_engine.specs.Engines.{Keeps};
+ghost use Rattle.hpb_engine.specs.Keeping.{StandsFor};
 ghost use Rattle.hpb_engine.specs.Checkpoints.{SameCore};
 ghost use Rattle.hpb_engine.specs.Runs.{HasFailed};
-ghost use Rattle.hpb_run.specs.Takes.{MakesCheckpoint};
+ghost use Rattle.hpb_run.specs.Batches.{MakesCheckpoint};
 
 use hpb_disk::Disk;
 use hpb_engine::{Engine, Fault, Rest};
@@ -14,11 +17,11 @@ use hpb_engine::{Engine, Fault, Rest};
 /// takes no memory.
 pub(crate) fn checkpoint<D: Disk + Drop>(engine: &mut Engine<D>) -> Option<Fault>
     requires works { engine.old.failed ≡ false }
-    ensures keeps { (machine : Machine) → Keeps D.seen D.may_leave engine.old.disk engine.old.progress engine.old.failed machine
-        → Keeps D.seen D.may_leave engine.new.disk engine.new.progress engine.new.failed machine }
-    ensures makes { MakesCheckpoint engine.old.progress engine.new.progress (D.moment engine.old.disk) (D.moment engine.new.disk) engine.old.failed engine.new.failed result }
+    ensures keeps { (machine : Machine) → Keeps engine.old machine → Keeps engine.new machine }
+    ensures since { (machine : Machine) → Keeps engine.old machine → LeavesOnly (D.device engine.old.disk) (D.device engine.new.disk) (StandsFor machine) }
+    ensures makes { MakesCheckpoint engine.old engine.new result }
     ensures same { SameCore engine.old.progress engine.new.progress }
-    ensures cause { HasFailed result (D.failures engine.old.disk) (D.failures engine.new.disk) }
+    ensures cause { HasFailed result (D.device engine.old.disk) (D.device engine.new.disk) }
 {
     loop {
         match engine.checkpoint_step() {
@@ -39,11 +42,13 @@ pub fn make_checkpoint<D: Disk + Drop>(engine: &mut Engine<D>) -> Option<Fault>
     // device has failed. If no checkpoint is on its way, it makes one of all committed batches, and finishes it unless
     // the device fails. If all batches are covered and all other frames are clean, it makes no call, and nothing
     // changes.
-    ensures made { (history : List Command) → Keeps D.seen D.may_leave engine.old.disk engine.old.progress engine.old.failed (at_rest history)
-        → Keeps D.seen D.may_leave engine.new.disk engine.new.progress engine.new.failed (at_rest history)
-        × MakesCheckpoint engine.old.progress engine.new.progress (D.moment engine.old.disk) (D.moment engine.new.disk) engine.old.failed engine.new.failed result }
+    ensures made { (history : List Command) → Keeps engine.old (at_rest history)
+        → Keeps engine.new (at_rest history) × MakesCheckpoint engine.old engine.new result }
+    // An image that a crash may leave since the call began stands for the same commands.
+    ensures since { (history : List Command) → Keeps engine.old (at_rest history)
+        → LeavesOnly (D.device engine.old.disk) (D.device engine.new.disk) (Stands history) }
     // The fault is 91 if and only if a call of the device failed in this call.
-    ensures cause { HasFailed result (D.failures engine.old.disk) (D.failures engine.new.disk) }
+    ensures cause { HasFailed result (D.device engine.old.disk) (D.device engine.new.disk) }
 {
     if engine.failed {
         return None;

@@ -2,12 +2,13 @@
 ghost use Rattle.std.specs.Prelude.{◌≡◌, List, true, false, Err, IfOk, OnErr};
 ghost use Rattle.hpb_rules.specs.declared.command.Command.{Command};
 ghost use Rattle.hpb_rules.specs.declared.letter.Answer.{Answer};
+ghost use Rattle.hpb_rules.specs.Letters.{judged};
 ghost use Rattle.hpb_rules.specs.Machine.{at_rest, in_flight};
-ghost use Rattle.hpb_engine.specs.Keeping.{Keeps};
+ghost use Rattle.hpb_disk.specs.Device.{LeavesOnly};
+ghost use Rattle.hpb_engine.specs.Engines.{Keeps};
 ghost use Rattle.hpb_engine.specs.Offers.{CanTake};
 ghost use Rattle.hpb_engine.specs.declared.step.Fault.TheVariants as faults;
-ghost use Rattle.hpb_run.specs.Batches.{KeepsAnswered, KeepsEnded, StaysRefused, TellsFailures, fault_of};
-ghost use Rattle.hpb_run.specs.Takes.{BatchTakes, Lands, LettersTake};
+ghost use Rattle.hpb_run.specs.Batches.{BatchTakes, IsAllOrNone, KeepsAnswered, KeepsEnded, Lands, LettersTake, StaysRefused, TellsFailures, fault_of, moment_of};
 
 use crate::checkpoint::checkpoint;
 use hpb_disk::Disk;
@@ -32,11 +33,13 @@ fn land<D: Disk + Drop>(engine: &mut Engine<D>, answers: &mut Answers) -> Result
     requires busy { engine.old.progress.commit.busy ≡ true }
     requires works { engine.old.failed ≡ false }
     ensures keeps { (history : List Command) (given : List Answer)
-        → Keeps D.seen D.may_leave engine.old.disk engine.old.progress engine.old.failed (in_flight history given engine.old.progress.commit.turns)
-        → KeepsAnswered D.seen D.may_leave engine.new.disk engine.new.progress engine.new.failed
-        engine.old.progress.committed.rules history given answers.new (fault_of result) }
-    ensures lands { Lands (fault_of result) engine.old.progress engine.new.progress (D.moment engine.old.disk) (D.moment engine.new.disk) }
-    ensures cause { TellsFailures (fault_of result) (D.failures engine.old.disk) (D.failures engine.new.disk) }
+        → Keeps engine.old (in_flight history given engine.old.progress.commit.turns)
+        → KeepsAnswered engine.old.progress.committed.rules engine.new history given answers.new (fault_of result) }
+    ensures since { (history : List Command) (given : List Answer)
+        → Keeps engine.old (in_flight history given engine.old.progress.commit.turns)
+        → LeavesOnly (D.device engine.old.disk) (D.device engine.new.disk) (IsAllOrNone history given) }
+    ensures lands { Lands (fault_of result) engine.old engine.new }
+    ensures cause { TellsFailures (fault_of result) (D.device engine.old.disk) (D.device engine.new.disk) }
 {
     match engine.make_turn(answers)? {
         Turned::Done => Ok(()),
@@ -52,12 +55,13 @@ fn commit_clear<D: Disk + Drop>(
     answers: &mut Answers,
 ) -> Result<(), Fault>
     requires clear { CanTake engine.old.failed engine.old.progress letters.now }
-    ensures commits { (history : List Command) → Keeps D.seen D.may_leave engine.old.disk engine.old.progress engine.old.failed (at_rest history)
-        → KeepsEnded D.seen D.may_leave engine.new.disk engine.new.progress engine.new.failed
-        engine.old.progress.committed.rules history letters.now answers.new (fault_of result) }
-    ensures takes { BatchTakes (fault_of result) letters.now engine.old.progress engine.new.progress (D.moment engine.old.disk) (D.moment engine.new.disk) }
+    ensures commits { (history : List Command) → Keeps engine.old (at_rest history)
+        → KeepsEnded engine.old.progress.committed.rules engine.new history letters.now answers.new (fault_of result) }
+    ensures since { (history : List Command) → Keeps engine.old (at_rest history)
+        → LeavesOnly (D.device engine.old.disk) (D.device engine.new.disk) (IsAllOrNone history (judged engine.old.progress.committed.rules history letters.now)) }
+    ensures takes { BatchTakes (fault_of result) letters.now engine.old.progress engine.new.progress (moment_of engine.old) (moment_of engine.new) }
     ensures now { result ≡ Err faults.Failed → ⊥ }
-    ensures cause { TellsFailures (fault_of result) (D.failures engine.old.disk) (D.failures engine.new.disk) }
+    ensures cause { TellsFailures (fault_of result) (D.device engine.old.disk) (D.device engine.new.disk) }
 {
     match engine.take(letters) {
         Some(told) => {
@@ -74,12 +78,12 @@ fn commit_all<D: Disk + Drop>(
     letters: &Letters,
     answers: &mut Answers,
 ) -> Result<(), Fault>
-    ensures commits { (history : List Command) → Keeps D.seen D.may_leave engine.old.disk engine.old.progress engine.old.failed (at_rest history)
-        → KeepsEnded D.seen D.may_leave engine.new.disk engine.new.progress engine.new.failed
-        engine.old.progress.committed.rules history letters.now answers.new (fault_of result)
-        × LettersTake letters.now engine.old.progress engine.new.progress (D.moment engine.old.disk) (D.moment engine.new.disk)
-        engine.old.failed (D.failures engine.old.disk) (D.failures engine.new.disk) (fault_of result) }
-    ensures cause { TellsFailures (fault_of result) (D.failures engine.old.disk) (D.failures engine.new.disk) }
+    ensures commits { (history : List Command) → Keeps engine.old (at_rest history)
+        → KeepsEnded engine.old.progress.committed.rules engine.new history letters.now answers.new (fault_of result)
+        × LettersTake letters.now engine.old engine.new (fault_of result) }
+    ensures since { (history : List Command) → Keeps engine.old (at_rest history)
+        → LeavesOnly (D.device engine.old.disk) (D.device engine.new.disk) (IsAllOrNone history (judged engine.old.progress.committed.rules history letters.now)) }
+    ensures cause { TellsFailures (fault_of result) (D.device engine.old.disk) (D.device engine.new.disk) }
 {
     match engine.bars(letters) {
         None => commit_clear(engine, letters, answers),
@@ -106,17 +110,18 @@ pub fn commit_letters<D: Disk + Drop>(
     // Suppose the engine keeps a history, with nothing in flight. Without a fault, the answers are those of the rules,
     // and it then keeps the history with the accepted commands. With a fault it keeps the history. A checkpoint is made
     // if and only if the journal is full.
-    ensures commits { (history : List Command) → Keeps D.seen D.may_leave engine.old.disk engine.old.progress engine.old.failed (at_rest history)
-        → IfOk result (λ ended. KeepsEnded D.seen D.may_leave engine.new.disk engine.new.progress engine.new.failed
-        engine.old.progress.committed.rules history letters ended.answers.items ended.fault
-        × LettersTake letters engine.old.progress engine.new.progress (D.moment engine.old.disk) (D.moment engine.new.disk)
-        engine.old.failed (D.failures engine.old.disk) (D.failures engine.new.disk) ended.fault) }
+    ensures commits { (history : List Command) → Keeps engine.old (at_rest history)
+        → IfOk result (λ ended. KeepsEnded engine.old.progress.committed.rules engine.new history letters ended.answers.items ended.fault
+        × LettersTake letters engine.old engine.new ended.fault) }
+    // An image that a crash may leave since the call began stands for the history, or for the history with all that the
+    // letters accept.
+    ensures since { (history : List Command) → Keeps engine.old (at_rest history)
+        → LeavesOnly (D.device engine.old.disk) (D.device engine.new.disk) (IsAllOrNone history (judged engine.old.progress.committed.rules history letters)) }
     // Without a fault no call of the device failed, and 91 comes only if one did.
-    ensures cause { IfOk result (λ ended. TellsFailures ended.fault (D.failures engine.old.disk) (D.failures engine.new.disk)) }
+    ensures cause { IfOk result (λ ended. TellsFailures ended.fault (D.device engine.old.disk) (D.device engine.new.disk)) }
     // If memory is refused, the history stays. No call has failed then, and the committed auction is the same.
-    ensures back { (history : List Command) → Keeps D.seen D.may_leave engine.old.disk engine.old.progress engine.old.failed (at_rest history)
-        → OnErr result (Keeps D.seen D.may_leave engine.new.disk engine.new.progress engine.new.failed (at_rest history)
-        × StaysRefused (D.failures engine.old.disk) (D.failures engine.new.disk) engine.old.progress engine.new.progress engine.old.failed engine.new.failed) }
+    ensures back { (history : List Command) → Keeps engine.old (at_rest history)
+        → OnErr result (Keeps engine.new (at_rest history) × StaysRefused engine.old engine.new) }
 {
     let mut answers = Vec::with_capacity(alloc, MOST_LETTERS)?;
     let mut told = Answers::new();

@@ -1,13 +1,7 @@
 //! The desk of an auction on a device.
 ghost use Rattle.std.specs.Prelude.{◌≡◌, ◌<◌, ◌≤◌, List, true, false, length, IfOk, IfErr, IfSome, OnErr, OnOk};
-ghost use Rattle.hpb_rules.specs.declared.command.Command.{Command};
 ghost use Rattle.hpb_rules.specs.declared.limits.TheConstants.{MOST_LETTERS};
-ghost use Rattle.hpb_rules.specs.Machine.{at_rest};
-ghost use Rattle.hpb_engine.specs.Keeping.{Keeps};
-ghost use Rattle.hpb_server.specs.Desk.{AsksAll, HasPlaces, seen};
-ghost use Rattle.hpb_run.specs.Device.{RepliesAt, ShowsAt, State, at_start, never_over};
-ghost use Rattle.hpb_run.specs.Takes.{IsBetween};
-ghost use Rattle.hpb_run.specs.Standing.{AreAlike, DeskStands, IsCovered, commits_after, is_due};
+ghost use Rattle.hpb_server.specs.Desk.{HasPlaces};
 
 use crate::asking::{ask_engine, upkeep_engine};
 use crate::counting::{count_commit, is_checkpoint_due};
@@ -36,6 +30,14 @@ pub struct DeviceDesk<D: Disk + Drop> {
 }
 
 impl<D: Disk + Drop> DeviceDesk<D> {
+    ghost use Rattle.hpb_rules.specs.declared.command.Command.{Command};
+    ghost use Rattle.hpb_rules.specs.Machine.{at_rest};
+    ghost use Rattle.hpb_engine.specs.Engines.{Keeps};
+    ghost use Rattle.hpb_server.specs.Desk.{AsksAll, seen};
+    ghost use Rattle.hpb_run.specs.Device.{ShowsAt, State, device_ways, start_of};
+    ghost use Rattle.hpb_run.specs.Batches.{IsBetween};
+    ghost use Rattle.hpb_run.specs.Standing.{AreAlike, DeskStands, IsCovered, commits_after, is_due};
+
     /// A desk that commits `batch` commands together, from 1 to 64, and makes a checkpoint after each `every` commits.
     /// A number out of the range counts as the nearest in it.
     ///
@@ -46,9 +48,8 @@ impl<D: Disk + Drop> DeviceDesk<D> {
         batch: usize,
         every: u32,
     ) -> Result<Self, Engine<D>>
-        ensures stands { (history : List Command) → Keeps D.seen D.may_leave engine.disk engine.progress engine.failed (at_rest history)
-            → IfOk result (λ desk. DeskStands D.seen D.may_leave D.failures desk.engine.disk desk.engine.progress desk.engine.failed desk.definition
-            (at_start engine.progress.committed.rules history (D.failures engine.disk) engine.failed)) }
+        ensures stands { (history : List Command) → Keeps engine (at_rest history)
+            → IfOk result (λ desk. DeskStands desk (start_of engine history)) }
         ensures every { IfOk result (λ desk. desk.every ≡ every) }
         ensures batch { IfOk result (λ desk. 0 < batch → batch ≤ MOST_LETTERS → desk.batch ≡ batch) }
         ensures none { IfOk result (λ desk. desk.commits ≡ 0) }
@@ -77,13 +78,12 @@ impl<D: Disk + Drop> DeviceDesk<D> {
     /// Makes a whole checkpoint if one is due: once there have been `every` commits since the last one that was due. If
     /// none is due, nothing changes, and it makes no call of the device. It takes no memory.
     pub fn make_due_checkpoint(&mut self)
-        ensures kept { (state : State) → DeskStands D.seen D.may_leave D.failures self.old.engine.disk self.old.engine.progress self.old.engine.failed self.old.definition state
-            → DeskStands D.seen D.may_leave D.failures self.new.engine.disk self.new.engine.progress self.new.engine.failed self.new.definition state }
+        ensures kept { (state : State) → DeskStands self.old state → DeskStands self.new state }
         // If one is due, it is made, and counting begins anew.
         ensures due { is_due self.old.every self.old.commits ≡ true → self.new.commits ≡ 0 }
-        ensures whole { (state : State) → DeskStands D.seen D.may_leave D.failures self.old.engine.disk self.old.engine.progress self.old.engine.failed self.old.definition state
+        ensures whole { (state : State) → DeskStands self.old state
             → IsBetween self.old.engine.progress → is_due self.old.every self.old.commits ≡ true
-            → IsCovered self.old.engine.progress self.new.engine.progress (D.moment self.old.engine.disk) (D.moment self.new.engine.disk) self.new.engine.failed }
+            → IsCovered self.old.engine self.new.engine }
         // If none is due, none is made.
         ensures none { is_due self.old.every self.old.commits ≡ false → (self.new.engine ≡ self.old.engine) × (self.new.commits ≡ self.old.commits) }
         ensures pace { (self.new.batch ≡ self.old.batch) × (self.new.every ≡ self.old.every) }
@@ -110,15 +110,14 @@ impl<D: Disk + Drop> DeviceDesk<D> {
             → OnOk result (self.new.commits ≡ commits_after self.old.commits self.old.engine.progress.committed.count self.new.engine.progress.committed.count) }
         ensures anew { is_due self.old.every self.old.commits ≡ true → OnOk result (self.new.commits ≤ 1) }
         ensures pace { (self.new.batch ≡ self.old.batch) × (self.new.every ≡ self.old.every) }
-        ensures asked { (state : State) → DeskStands D.seen D.may_leave D.failures self.old.engine.disk self.old.engine.progress self.old.engine.failed self.old.definition state
-            → IfOk result (λ replies. (next : State) × AsksAll RepliesAt never_over state commands.now replies next
-            × DeskStands D.seen D.may_leave D.failures self.new.engine.disk self.new.engine.progress self.new.engine.failed self.new.definition next) }
-        // If the device fails, or had failed, all commands get one refusal. If it had worked, 93 says that none of them
-        // is kept.
-        ensures alike { (state : State) → DeskStands D.seen D.may_leave D.failures self.old.engine.disk self.old.engine.progress self.old.engine.failed self.old.definition state
-            → self.new.engine.failed ≡ true → IfOk result (AreAlike D.seen D.may_leave self.new.engine.disk self.new.engine.progress self.new.engine.failed state (length commands.now)) }
-        ensures kept { (state : State) → DeskStands D.seen D.may_leave D.failures self.old.engine.disk self.old.engine.progress self.old.engine.failed self.old.definition state
-            → OnErr result (DeskStands D.seen D.may_leave D.failures self.new.engine.disk self.new.engine.progress self.new.engine.failed self.new.definition state) }
+        ensures asked { (state : State) → DeskStands self.old state
+            → IfOk result (λ replies. (next : State) × AsksAll device_ways state commands.now replies next
+            × DeskStands self.new next) }
+        // If the device fails, or had failed, all commands get one refusal. 91 says that they are in flight. If the
+        // device had worked, 93 says that none of them is kept.
+        ensures alike { (state : State) → DeskStands self.old state
+            → self.new.engine.failed ≡ true → IfOk result (AreAlike self.new.engine state commands.now) }
+        ensures kept { (state : State) → DeskStands self.old state → OnErr result (DeskStands self.new state) }
         ensures definition { self.new.definition ≡ self.old.definition }
     {
         self.make_due_checkpoint();
@@ -132,8 +131,7 @@ impl<D: Disk + Drop> DeviceDesk<D> {
     /// The auction after the acknowledged commands. `None` if it hasn't the places by which lines are read.
     fn shown(&self) -> Option<&Auction>
         ensures places { IfSome result (λ auction. HasPlaces self.now.definition auction.now.rules) }
-        ensures shows { (state : State) → DeskStands D.seen D.may_leave D.failures self.now.engine.disk self.now.engine.progress self.now.engine.failed self.now.definition state
-            → ShowsAt state (seen result) state }
+        ensures shows { (state : State) → DeskStands self.now state → ShowsAt state (seen result) state }
     {
         let auction = self.engine.committed();
         if has_places_of(auction, &self.definition) {
@@ -154,11 +152,9 @@ fn has_places_of(auction: &Auction, definition: &Definition) -> bool
 }
 
 impl<D: Disk + Drop> Desk for DeviceDesk<D> {
-    ghost use Rattle.std.specs.Prelude.{false, true};
-    ghost use Rattle.std.proofs.Common.{refl};
-    ghost use Rattle.hpb_rules.specs.declared.limits.TheConstants.{MOST_LETTERS};
-    ghost use Rattle.hpb_run.specs.Device.{RepliesAt, ShowsAt, State as Standing, TellsAt, never_over, rules_at};
-    ghost use Rattle.hpb_run.specs.Telling.{desk_has_rules, device_keeps_rules, device_replies, device_shows, some_letters};
+    ghost use Rattle.std.specs.Prelude.{false};
+    ghost use Rattle.std.proofs.Common.{refl, sym};
+    ghost use Rattle.hpb_run.specs.Device.{State as Standing, device_ways};
     ghost use Rattle.hpb_run.specs.Standing.{DeskStands};
 
     ghost State = { Standing };
@@ -167,35 +163,13 @@ impl<D: Disk + Drop> Desk for DeviceDesk<D> {
 
     ghost over = { λ desk. false };
 
-    ghost is_at = { λ desk state. DeskStands D.seen D.may_leave D.failures desk.engine.disk desk.engine.progress desk.engine.failed desk.definition state };
+    ghost is_at = { DeskStands };
 
-    ghost rules_at = { rules_at };
+    ghost ways = { device_ways };
 
-    ghost over_at = { never_over };
-
-    ghost tells = { TellsAt };
-
-    ghost asks = { RepliesAt };
-
-    ghost looks = { ShowsAt };
-
-    ghost most = { MOST_LETTERS };
-
-    ghost takes_memory = { true };
-
-    ghost waits = { true };
-
-    ghost rules_are = { λ desk state is. desk_has_rules desk.definition state is.1 };
+    ghost rules_are = { λ desk state is. sym is.1 };
 
     ghost over_is = { λ desk state is. refl };
-
-    ghost most_is_some = { some_letters };
-
-    ghost rules_stay = { device_keeps_rules };
-
-    ghost replies_go_on = { device_replies };
-
-    ghost shows_go_on = { device_shows };
 
     fn definition(&self) -> &Definition {
         &self.definition

@@ -15,29 +15,30 @@ use Rattle.hpb_server.specs.Desk.{AsksAll}
 use Rattle.hpb_serve.specs.declared.stop.Stop.{Stop}
 use Rattle.hpb_serve.specs.declared.stop.Stop.TheVariants.{Halted, Order}
 use Rattle.hpb_serve.specs.InFlight.{AwaitsAfter, CameFrom, HasLooked, HasTaken, refused_after, refused_by, waiting_for}
-use Rattle.hpb_serve.specs.Sessions.{DeskStands, Follows, RepliesAt, State, count_after, over_at}
+use Rattle.hpb_serve.specs.Sessions.{DeskStands, Follows, State, count_after, over_at}
 use Rattle.hpb_serve.specs.Stops.{is_over, refusal_of}
 use Rattle.hpb_serve.proofs.Order.{next_later}
 use Rattle.hpb_serve.proofs.Steps.{after_answer, after_stop, answered, count_known, follows_self, follows_trans, from_ring, goes_self, ring_kept, same_ring, stopped, stopped_stands}
+use Rattle.hpb_serve.specs.Telling.{house_ways}
 
 -- ---- commands that are sent one after another
 -- commands, and then more
 pub asks_then : (commands more : List Command) (given others : List Reply) (old mid new : State)
-    → AsksAll RepliesAt over_at old commands given mid → over_at mid ≡ false → AsksAll RepliesAt over_at mid more others new → AsksAll RepliesAt over_at old (commands ++ more) (given ++ others) new
+    → AsksAll house_ways old commands given mid → over_at mid ≡ false → AsksAll house_ways mid more others new → AsksAll house_ways old (commands ++ more) (given ++ others) new
 asks_then [] more given others old mid new asked goes_on then =
-    subst (λ (front : List Reply). AsksAll RepliesAt over_at old more (front ++ others) new) (sym asked.1)
-    (subst (λ (state : State). AsksAll RepliesAt over_at state more others new) asked.0 then)
+    subst (λ (front : List Reply). AsksAll house_ways old more (front ++ others) new) (sym asked.1)
+    (subst (λ (state : State). AsksAll house_ways state more others new) asked.0 then)
 asks_then (command ∷ commands) more given others old mid new (inl over) goes_on then = absurd (false≢true (sym goes_on ∙ ap over_at over.1 ∙ over.0))
 asks_then (command ∷ commands) more given others old mid new (inr asked) goes_on then =
     inr (asked.0, asked.1, asked.2 ++ others, asked.3, asked.4, asks_then commands more asked.2 others asked.3 mid new asked.5 goes_on then, ap (λ (l : List Reply). l ++ others) asked.6)
 
 -- no replies once the session is over
-pub asks_none : (state : State) (commands : List Command) → over_at state ≡ true → AsksAll RepliesAt over_at state commands [] state
+pub asks_none : (state : State) (commands : List Command) → over_at state ≡ true → AsksAll house_ways state commands [] state
 asks_none state [] over = (refl, refl)
 asks_none state (command ∷ commands) over = inl (over, refl, refl)
 
 -- all are refused once the client is halted
-pub asks_halted : (state : State) (commands : List Command) → state.stop ≡ Some Halted → AsksAll RepliesAt over_at state commands (refused_by Halted (length commands)) state
+pub asks_halted : (state : State) (commands : List Command) → state.stop ≡ Some Halted → AsksAll house_ways state commands (refused_by Halted (length commands)) state
 asks_halted state [] is = (refl, refl)
 asks_halted state (command ∷ commands) is = inr (
   ap is_over is,
@@ -50,7 +51,7 @@ asks_halted state (command ∷ commands) is = inr (
 )
 
 -- and a desk that has stopped stays as it is
-pub asks_stopped : (state : State) (commands : List Command) (why : Stop) → state.stop ≡ Some why → AsksAll RepliesAt over_at state commands (refused_after why (length commands)) state
+pub asks_stopped : (state : State) (commands : List Command) (why : Stop) → state.stop ≡ Some why → AsksAll house_ways state commands (refused_after why (length commands)) state
 asks_stopped state commands Halted is = asks_halted state commands is
 asks_stopped state commands Order is = asks_none state commands (ap is_over is)
 
@@ -136,7 +137,7 @@ looked_turn first was asked rested new before a r l = looked_trans first was new
 abbrev pub AreTaken : {M : Type 0} (first client : Client M) (count : ℕ) (given : List Reply) → Type 0
 AreTaken first client count given =
     (commands : List Command) (state : State) → first.waiting.items ≡ waiting_for first.seat first.mark commands → CameFrom state first
-    → (next : State) × AsksAll RepliesAt over_at state (take count commands) given next × CameFrom next client × AwaitsAfter client next.told × (0 < count → DeskStands client None next)
+    → (next : State) × AsksAll house_ways state (take count commands) given next × CameFrom next client × AwaitsAfter client next.told × (0 < count → DeskStands client None next)
 
 pub none_taken : {M : Type 0} (client : Client M) (given : List Reply) → given ≡ [] → AreTaken client client 0 given
 none_taken client given none commands state waits came = (state, (refl, none), came, awaits_first client commands state.told waits came.3, λ some. absurd (omega (arith, some)))
@@ -155,11 +156,11 @@ module _ {M : Type 0} (first old new : Client M) (count : ℕ) (given : Answer) 
       let own : given.letter ≡ record { seat = new.seat; command = posted.0 } = posted.2 ∙ ap (λ n. record { seat = n; command = posted.0 }) (sym (seat ∙ of)) in
       let late : mid.told ≤ given.at = before.3 new.viewer given looked.2 (subst (λ n. slice_get (answers_of n new.viewer) old.taken ≡ Some given) seat taken.0) taken.1 in
       let next : State = after_answer mid new came_there given in
-      let one : AsksAll RepliesAt over_at mid (posted.0 ∷ []) (given.reply ∷ []) next =
+      let one : AsksAll house_ways mid (posted.0 ∷ []) (given.reply ∷ []) next =
       inr (ap is_over before.2.4, given.reply, [], next, answered mid new came_there posted.0 given own late taken.2, (refl, refl), refl) in
       let stands : DeskStands new None next = (refl, refl, omega (arith, count_known old.mark given, taken.3), refl, refl) in (
         next,
-        subst (λ (front : List Command). AsksAll RepliesAt over_at state front (had ++ given.reply ∷ []) next) (sym (ap (λ n. take n commands) (add-one count) ∙ posted.1))
+        subst (λ (front : List Command). AsksAll house_ways state front (had ++ given.reply ∷ []) next) (sym (ap (λ n. take n commands) (add-one count) ∙ posted.1))
             (asks_then (take count commands) (posted.0 ∷ []) had (given.reply ∷ []) state mid next before.1 (ap is_over before.2.4) one),
         (refl, ring_kept new.letters new.letters refl, follows_self new.viewer, stands.2, refl),
         awaits_next new old.taken given taken.0 taken.4,
@@ -168,20 +169,20 @@ module _ {M : Type 0} (first old new : Client M) (count : ℕ) (given : Answer) 
 
 -- the commands answered among those that were posted are answered among all
 pub front_answered : (state next : State) (commands : List Command) (had : List Reply) (count : ℕ) → length had ≤ count
-    → AsksAll RepliesAt over_at state (take (length had) (take count commands)) had next → AsksAll RepliesAt over_at state (take (length had) commands) had next
+    → AsksAll house_ways state (take (length had) (take count commands)) had next → AsksAll house_ways state (take (length had) commands) had next
 front_answered state next commands had count within asked =
-    subst (λ (front : List Command). AsksAll RepliesAt over_at state front had next) (take-take (length had) count commands within) asked
+    subst (λ (front : List Command). AsksAll house_ways state front had next) (take-take (length had) count commands within) asked
 
 -- and if they are all of them, all commands are answered
 pub all_answered : (state next : State) (commands : List Command) (had : List Reply) (count : ℕ) → length had ≡ count → length commands ≤ count
-    → AsksAll RepliesAt over_at state (take (length had) (take count commands)) had next → AsksAll RepliesAt over_at state commands had next
+    → AsksAll house_ways state (take (length had) (take count commands)) had next → AsksAll house_ways state commands had next
 all_answered state next commands had count is all asked =
-    subst (λ (front : List Command). AsksAll RepliesAt over_at state front had next) (take_all (length had) commands (omega (arith, is, all)))
+    subst (λ (front : List Command). AsksAll house_ways state front had next) (take_all (length had) commands (omega (arith, is, all)))
     (front_answered state next commands had count (omega (arith, is)) asked)
 
 -- ---- commands that get no answer
 refused_left : {M : Type 0} (state : State) (client : Client M) (came : CameFrom state client) (why : Stop) (commands : List Command) → 0 < length commands
-    → AsksAll RepliesAt over_at state commands (refused_by why (length commands)) (after_stop state client came why)
+    → AsksAll house_ways state commands (refused_by why (length commands)) (after_stop state client came why)
 refused_left state client came why [] some = absurd (omega (arith, some))
 refused_left state client came Halted (command ∷ commands) some = inr (
   ap is_over came.4,
@@ -204,15 +205,15 @@ refused_left state client came Order (command ∷ commands) some = inr (
 
 -- the rest of the commands that were sent together, behind those that are answered
 pub rest_refused : {M : Type 0} (state mid : State) (client : Client M) (why : Stop) (commands : List Command) (had : List Reply) (all : List Reply) → length had < length commands
-    → AsksAll RepliesAt over_at state (take (length had) commands) had mid → CameFrom mid client → all ≡ had ++ refused_by why (length commands - length had)
-    → (next : State) × AsksAll RepliesAt over_at state commands all next × DeskStands client (Some why) next
+    → AsksAll house_ways state (take (length had) commands) had mid → CameFrom mid client → all ≡ had ++ refused_by why (length commands - length had)
+    → (next : State) × AsksAll house_ways state commands all next × DeskStands client (Some why) next
 rest_refused state mid client why commands had all fewer asked came is =
     let left : List Command = drop (length had) commands in
     let counted : length left ≡ length commands - length had = length-drop (length had) commands in
     let next : State = after_stop mid client came why in (
       next,
-      subst (λ (all : List Reply). AsksAll RepliesAt over_at state commands all next) (sym (is ∙ ap (λ n. had ++ refused_by why n) (sym counted)))
-          (subst (λ (commands : List Command). AsksAll RepliesAt over_at state commands (had ++ refused_by why (length left)) next) (take-append-drop (length had) commands)
+      subst (λ (all : List Reply). AsksAll house_ways state commands all next) (sym (is ∙ ap (λ n. had ++ refused_by why n) (sym counted)))
+          (subst (λ (commands : List Command). AsksAll house_ways state commands (had ++ refused_by why (length left)) next) (take-append-drop (length had) commands)
           (asks_then (take (length had) commands) left had (refused_by why (length left)) state mid next asked (ap is_over came.4) (refused_left mid client came why left (omega (arith, counted, fewer))))),
       stopped_stands mid client came why,
     )

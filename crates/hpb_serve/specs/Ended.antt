@@ -3,6 +3,7 @@
 use Rattle.std.specs.Prelude.{◌≡◌, ℕ, List, Contains, map}
 use Rattle.std.specs.List.{range_with_len}
 use Rattle.hpb_rules.specs.AuctionValue.{AuctionValue}
+use Rattle.hpb_disk.specs.Device.{Device}
 use Rattle.hpb_house.specs.Closings.{Closed, Unsettled}
 use Rattle.hpb_house.specs.declared.keeper.Halt.{Halt}
 use Rattle.hpb_rings.specs.declared.client.Client.{Client}
@@ -46,30 +47,29 @@ LeavesOne auction seats (threads.Order client) = IsLeft auction seats client
 
 -- **The result of sessions that have ended.**
 --
--- The facts once this many sessions have ended. The device was opened with these bytes and this auction, after this
--- many failed calls.
-pub record EndsAll {D : Type 0} (seen : D → List ℕ) (may_leave : D → List ℕ → Type 0) (fails : D → ℕ) (image : List ℕ) (failures : ℕ) (before : AuctionValue) (sessions : ℕ) (served : Served D) : Type 0 where
+-- The facts once this many sessions have ended. The device was opened so, with this auction.
+pub record EndsAll {D : Type 0} (device : D → Device) (opened : Device) (before : AuctionValue) (sessions : ℕ) (served : Served D) : Type 0 where
   -- There is a report of each seat.
   pub seats : map (λ (report : Report). report.seat) served.reports.items ≡ range_with_len 0 sessions
   -- The house is closed: the reports show one history, which the device keeps.
-  pub closed : Closed seen may_leave fails image failures before served.closing served.reports.items
+  pub closed : Closed device opened before served.closing served.reports.items
 
 -- **The result if serving ends ill.** A 96 hands back the reports, with the remains of the house. For a 90, a 92 and a
 -- 94 there is no fact but the bytes written.
 --
 -- The facts once this many sessions have ended, and their answers differ from the committed commands, or a batch is in
 -- flight though no call of the device has failed.
-pub record EndsDiffering {D : Type 0} (seen : D → List ℕ) (may_leave : D → List ℕ → Type 0) (fails : D → ℕ) (image : List ℕ) (failures : ℕ) (before : AuctionValue) (sessions : ℕ) (differing : Differing D) : Type 0 where
+pub record EndsDiffering {D : Type 0} (device : D → Device) (opened : Device) (before : AuctionValue) (sessions : ℕ) (differing : Differing D) : Type 0 where
   -- There is a report of each seat.
   pub seats : map (λ (report : Report). report.seat) differing.reports.items ≡ range_with_len 0 sessions
   -- The close is refused: the device keeps the committed commands.
-  pub unsettled : Unsettled seen may_leave fails image failures before differing.fault differing.reports.items
+  pub unsettled : Unsettled device opened before differing.fault differing.reports.items
 
 -- A session left its client, or all have ended and their answers differ. If memory, the writer or the start failed,
 -- there is no more to say.
-abbrev pub EndsIll : {D : Type 0} (seen : D → List ℕ) (may_leave : D → List ℕ → Type 0) (fails : D → ℕ) (image : List ℕ) (failures : ℕ) (before : AuctionValue) (sessions : ℕ) → ServeFault D → Type 0
-EndsIll seen may_leave fails image failures before sessions faults.Memory = Unit {0}
-EndsIll seen may_leave fails image failures before sessions faults.Writer = Unit {0}
-EndsIll seen may_leave fails image failures before sessions (faults.Start cause) = Unit {0}
-EndsIll seen may_leave fails image failures before sessions (faults.Order client) = IsLeft before (range_with_len 0 sessions) client
-EndsIll seen may_leave fails image failures before sessions (faults.Counts differing) = EndsDiffering seen may_leave fails image failures before sessions differing
+abbrev pub EndsIll : {D : Type 0} (device : D → Device) (opened : Device) (before : AuctionValue) (sessions : ℕ) → ServeFault D → Type 0
+EndsIll device opened before sessions faults.Memory = Unit {0}
+EndsIll device opened before sessions faults.Writer = Unit {0}
+EndsIll device opened before sessions (faults.Start cause) = Unit {0}
+EndsIll device opened before sessions (faults.Order client) = IsLeft before (range_with_len 0 sessions) client
+EndsIll device opened before sessions (faults.Counts differing) = EndsDiffering device opened before sessions differing

@@ -6,7 +6,8 @@ ghost use Rattle.hpb_rules.specs.declared.command.Command.{Command};
 ghost use Rattle.hpb_rules.specs.declared.limits.TheConstants.{MOST_LETTERS, MOST_WAITING};
 ghost use Rattle.hpb_server.specs.Desk.{AsksAll};
 ghost use Rattle.hpb_serve.specs.InFlight.{CameFrom, HasLooked, HasTaken, StillWaits, refused_after, refused_by, waiting_for};
-ghost use Rattle.hpb_serve.specs.Sessions.{DeskStands, RepliesAt, State, over_at};
+ghost use Rattle.hpb_serve.specs.Sessions.{DeskStands, State};
+ghost use Rattle.hpb_serve.specs.Telling.{house_ways};
 ghost use Rattle.hpb_serve.specs.declared.stop.Stop.TheVariants.{Halted, Order};
 ghost use Rattle.hpb_serve.specs.Stops.{IsInOrder};
 
@@ -37,7 +38,7 @@ pub(crate) fn ask_client<M: Copy, R: Wait>(
     requires idle { client.old.waiting.items ≡ [] }
     requires none { replies.old ≡ [] }
     ensures asked { (state : State) → DeskStands client.old None state
-        → (next : State) × AsksAll RepliesAt over_at state commands.now replies.new next × DeskStands client.new result next }
+        → (next : State) × AsksAll house_ways state commands.now replies.new next × DeskStands client.new result next }
     ensures opened { client.new.viewer.opened ≡ client.old.viewer.opened }
     ensures idle { result ≡ None → client.new.waiting.items ≡ [] }
     ensures halted { result ≡ Some Halted → client.new.is_halted ≡ true }
@@ -119,7 +120,7 @@ fn take_answers<M: Copy, R: Wait>(
     requires most { length client.old.waiting.items ≤ MOST_WAITING }
     requires none { replies.old ≡ [] }
     ensures asked { (commands : List Command) (state : State) → client.old.waiting.items ≡ waiting_for client.old.seat client.old.mark commands → CameFrom state client.old
-        → (next : State) × AsksAll RepliesAt over_at state (take (length replies.new) commands) replies.new next × CameFrom next client.new
+        → (next : State) × AsksAll house_ways state (take (length replies.new) commands) replies.new next × CameFrom next client.new
         × (0 < length replies.new → result ≡ None → DeskStands client.new None next) }
     ensures looked { HasLooked client.old client.new }
     ensures all { result ≡ None → (client.new.waiting.items ≡ []) × (length replies.new ≡ length client.old.waiting.items) }

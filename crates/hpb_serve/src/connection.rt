@@ -2,13 +2,12 @@
 ghost use Rattle.std.specs.Prelude.{◌≡◌, ◌<◌, ◌≤◌, []};
 ghost use Rattle.hpb_serve.specs.Ended.{EndsWith};
 
-use crate::door::Door;
+use crate::hall::Hall;
 use crate::looking::Looking;
 use crate::watching::Watch;
-use crate::{EndCause, Session, SessionEnd, finish_client, run_session};
+use crate::{EndCause, HouseDesk, Session, SessionEnd, finish_client, run_session};
 use hpb_house::Halt;
 use hpb_rings::Client;
-use std::alloc::Global;
 use std::cell::Cell;
 use std::io;
 use std::net::Shutdown;
@@ -61,9 +60,7 @@ fn looks_among(looks: u32, sessions: usize) -> u32
 /// session ended.
 pub(crate) fn serve_connection<R: Wait, V: Watch>(
     rt: &R,
-    alloc: Global,
-    door: &Door,
-    watch: &V,
+    hall: Hall<'_, V>,
     idle: Idle,
 ) -> SessionEnd<Halt>
     ensures { EndsWith idle.client result }
@@ -74,6 +71,7 @@ pub(crate) fn serve_connection<R: Wait, V: Watch>(
         sessions,
         ..
     } = idle;
+    let Hall { alloc, door, watch } = hall;
     let Some(guest) = door.enter(rt, watch, number) else {
         return SessionEnd::Finished(finish_client(rt, client));
     };
@@ -81,8 +79,8 @@ pub(crate) fn serve_connection<R: Wait, V: Watch>(
     let failure = Cell::new(None);
     let mut reader = Looking::new(stream, looks_among(READ_LOOKS, sessions), &failure);
     let mut writer = reader;
-    let looks = looks_among(ANSWER_LOOKS, sessions);
-    let session = run_session(rt, alloc, &mut reader, &mut writer, client, looks);
+    let desk = HouseDesk::new(rt, client).looking(looks_among(ANSWER_LOOKS, sessions));
+    let session = run_session(alloc, &mut reader, &mut writer, desk);
     // This fails if the other side has closed the connection; then it is shut down already.
     let _ = stream.shutdown(Shutdown::Both);
     watch.ended(&guest.place, cause_of(&session, failure.get()));

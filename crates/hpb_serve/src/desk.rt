@@ -47,7 +47,8 @@ impl<M: Copy, R: Wait + Drop> HouseDesk<M, R> {
     ghost use Rattle.hpb_rules.specs.declared.limits.TheConstants.{MOST_WAITING};
     ghost use Rattle.hpb_server.specs.Desk.{AsksAll};
     ghost use Rattle.hpb_serve.specs.Ends.{EndsBy, posts_of, seat_of, viewer_of};
-    ghost use Rattle.hpb_serve.specs.Sessions.{DeskStands, RepliesAt, State, over_at};
+    ghost use Rattle.hpb_serve.specs.Sessions.{DeskStands, State};
+    ghost use Rattle.hpb_serve.specs.Telling.{house_ways};
     ghost use Rattle.hpb_serve.specs.Stops.{is_over};
 
     /// A desk with a client without outstanding letters. It sleeps until its answers come.
@@ -106,7 +107,7 @@ impl<M: Copy, R: Wait + Drop> HouseDesk<M, R> {
         requires some { 0 < length commands.now }
         requires most { length commands.now ≤ MOST_WAITING }
         ensures replied { (state : State) → DeskStands self.old.client self.old.stop state
-            → (next : State) × AsksAll RepliesAt over_at state commands.now result next × DeskStands self.new.client self.new.stop next }
+            → (next : State) × AsksAll house_ways state commands.now result next × DeskStands self.new.client self.new.stop next }
         ensures rules { self.new.client.viewer.opened ≡ self.old.client.viewer.opened }
         // A halted client posts nothing.
         ensures silent { self.old.client.is_halted ≡ true → sent self.new.client.letters ≡ sent self.old.client.letters }
@@ -129,12 +130,10 @@ impl<M: Copy, R: Wait + Drop> HouseDesk<M, R> {
 }
 
 impl<M: Copy, R: Wait + Drop> Desk for HouseDesk<M, R> {
-    ghost use Rattle.std.specs.Prelude.{false, true};
     ghost use Rattle.std.proofs.Common.{ap};
-    ghost use Rattle.hpb_server.specs.Desk.{no_memory};
-    ghost use Rattle.hpb_serve.specs.Sessions.{DeskStands, RepliesAt, ShowsAt, State as Standing, TellsAt, most_in_flight, over_at, rules_at};
+    ghost use Rattle.hpb_serve.specs.Sessions.{DeskStands, State as Standing};
     ghost use Rattle.hpb_serve.specs.Stops.{is_over};
-    ghost use Rattle.hpb_serve.specs.Telling.{house_keeps_rules, house_replies, house_shows, some_in_flight};
+    ghost use Rattle.hpb_serve.specs.Telling.{house_ways};
 
     ghost State = { Standing };
 
@@ -144,33 +143,11 @@ impl<M: Copy, R: Wait + Drop> Desk for HouseDesk<M, R> {
 
     ghost is_at = { λ desk state. DeskStands desk.client desk.stop state };
 
-    ghost rules_at = { rules_at };
-
-    ghost over_at = { over_at };
-
-    ghost tells = { TellsAt };
-
-    ghost asks = { RepliesAt };
-
-    ghost looks = { ShowsAt };
-
-    ghost most = { most_in_flight };
-
-    ghost takes_memory = { no_memory };
-
-    ghost waits = { true };
+    ghost ways = { house_ways };
 
     ghost rules_are = { λ desk state is. ap (λ viewing. viewing.opened.rules) is.1 };
 
     ghost over_is = { λ desk state is. ap is_over is.3 };
-
-    ghost most_is_some = { some_in_flight };
-
-    ghost rules_stay = { house_keeps_rules };
-
-    ghost replies_go_on = { house_replies };
-
-    ghost shows_go_on = { house_shows };
 
     fn definition(&self) -> &Definition {
         self.client.viewer.auction().definition()

@@ -1,12 +1,10 @@
 //! A session from its first line to the end of its client.
-ghost use Rattle.std.specs.Prelude.{◌≡◌, ◌⊎◌, [], true};
+ghost use Rattle.std.specs.Prelude.{◌≡◌, ◌⊎◌, [], None, true};
 ghost use Rattle.rtrb.specs.Ring.{SameProducer};
-ghost use Rattle.hpb_rules.specs.declared.limits.TheConstants.{MOST_READ_BYTES};
-ghost use Rattle.hpb_server.specs.Desk.{no_memory};
-ghost use Rattle.hpb_server.specs.Serving.{Serves};
 ghost use Rattle.hpb_server.specs.Streams.{streams};
 ghost use Rattle.hpb_serve.specs.Ends.{EndsAt, IsEndOf, TellsOn};
-ghost use Rattle.hpb_serve.specs.Sessions.{RepliesAt, ShowsAt, State, at_start, most_in_flight, over_at, rules_at};
+ghost use Rattle.hpb_serve.specs.Sessions.{State, at_start};
+ghost use Rattle.hpb_serve.specs.Telling.{ServesLines};
 
 use crate::desk::HouseDesk;
 use crate::end::{Session, SessionEnd};
@@ -18,9 +16,8 @@ use std::io::{Read, Write};
 use std::sync::Wait;
 use std::thread;
 
-/// Answers each line of the reader by one line on the writer, as `serve` does, from the house of a client. Then it
-/// finishes the client; after a 95 `order` it hands the client back instead. For each answer of the house it looks this
-/// many times, while other threads run, before it sleeps.
+/// Answers each line of the reader by one line on the writer, as `serve` does, from a desk on a house. Then it finishes
+/// the desk's client; after a 95 `order` it hands the client back instead.
 ///
 /// It posts up to 16 commands that have come together. It writes and flushes all answers before it posts the next ones
 /// or reads more.
@@ -28,24 +25,21 @@ use std::thread;
 /// The replies fit the auction that the client's viewer shows at the end. Each was judged after commands at the front
 /// of that history, and after all that the session had reported before.
 pub fn run_session<M: Copy, R: Wait + Drop, I: Read, O: Write>(
-    rt: R,
     alloc: Global,
     reader: &mut I,
     writer: &mut O,
-    client: Client<M>,
-    looks: u32,
+    desk: HouseDesk<M, R>,
 ) -> Session<M>
-    requires idle { client.waiting.items ≡ [] }
-    ensures own { IsEndOf client result.end }
+    // The desk must not have stopped.
+    requires { desk.stop ≡ None }
+    ensures own { IsEndOf desk.client result.end }
     // Each line has the answer of a desk whose answers fit, and the session ends at the state to which they lead. If
     // the opened auction shows a history, the commands reported at last go on from those that the client's viewer
     // showed at the start.
-    ensures served { (state : State) × Serves rules_at over_at RepliesAt ShowsAt most_in_flight no_memory [] MOST_READ_BYTES
-        (streams (I.remaining reader.old) (O.contents writer.old)) (streams (I.remaining reader.new) (O.contents writer.new))
-        (at_start client) state result.fault
-        × EndsAt result.end state × TellsOn client.viewer state }
+    ensures served { (state : State) × ServesLines (streams (I.remaining reader.old) (O.contents writer.old)) (streams (I.remaining reader.new) (O.contents writer.new)) (at_start desk.client) state result.fault
+        × EndsAt result.end state × TellsOn desk.client.viewer state }
 {
-    let mut desk = HouseDesk::new(rt, client).looking(looks);
+    let mut desk = desk;
     let fault = serve(alloc, reader, writer, &mut desk);
     Session {
         end: desk.finish(),

@@ -7,16 +7,14 @@ ghost use Rattle.hpb_serve.specs.Ended.{LeavesOne};
 ghost use Rattle.hpb_serve.specs.declared.fault.ThreadsFault.TheVariants.{Memory};
 
 use crate::connection::{Idle, serve_connection};
-use crate::door::Door;
 use crate::ends::{OfClient, join_sessions};
 use crate::fault::ThreadsFault;
+use crate::hall::Hall;
 use crate::watching::{Rounds, Watch, look_last};
 use crate::{SessionEnd, finish_client};
 use hpb_disk::Disk;
-use hpb_house::{Halt, House, Incoming, Naming, OpenGate, Workers};
+use hpb_house::{Gates, Halt, House, Incoming, Naming, OpenGate, Workers};
 use hpb_rings::{Client, Report};
-use std::alloc::Global;
-use std::net::TcpListener;
 use std::snapshot::Snapshot;
 use std::sync::Wait;
 use std::thread;
@@ -38,10 +36,8 @@ fn finish_clients<R: Wait>(rt: &R, clients: Vec<Client<Halt>>)
 fn start_sessions<'s, E, R: Threads + Wait + Sync, V: Watch + Sync>(
     scope: &Scope<'s, E>,
     rt: &'s R,
-    alloc: Global,
     clients: Vec<Client<Halt>>,
-    door: &'s Door,
-    watch: &'s V,
+    hall: Hall<'s, V>,
     threads: Vec<PromisedHandle<SessionEnd<Halt>, OfClient>>,
 ) -> Result<Vec<PromisedHandle<SessionEnd<Halt>, OfClient>>, ThreadsFault>
     requires idle { All (λ client. client.waiting.items ≡ []) clients.items }
@@ -49,6 +45,7 @@ fn start_sessions<'s, E, R: Threads + Wait + Sync, V: Watch + Sync>(
     ensures clients { IfOk result (λ started. map (λ thread. thread.promise.client.value) started.items ≡ clients.items) }
     ensures fault { IfErr result (λ fault. fault ≡ Memory) }
 {
+    let Hall { alloc, door, watch } = hall;
     let shut = door.hold(rt);
     let sessions = clients.len();
     let mut threads = threads;
@@ -62,7 +59,7 @@ fn start_sessions<'s, E, R: Threads + Wait + Sync, V: Watch + Sync>(
             client: Snapshot::of(&client),
         };
         let idle = Idle::new(client, threads.len(), sessions);
-        let session = move || serve_connection(rt, alloc, door, watch, idle);
+        let session = move || serve_connection(rt, Hall { alloc, door, watch }, idle);
         match scope.spawn_with(promise, session) {
             Ok(thread) => {
                 if threads.push(thread).is_err() {
@@ -106,19 +103,16 @@ pub(crate) fn run_threads<
     V: Watch + Sync,
 >(
     rt: &R,
-    alloc: Global,
     house: &House<D, W, J>,
     incoming: Incoming<J>,
     clients: Vec<Client<Halt>>,
-    listener: TcpListener,
-    watch: &V,
+    hall: Hall<'_, V>,
 ) -> Result<Vec<Report>, ThreadsFault>
     requires ready { All (λ client. SameBoard house.now client.viewer × (client.waiting.items ≡ [])) clients.items }
     ensures reports { IfOk result (λ reports. AreReportsOf clients.items reports.items) }
     ensures left { IfErr result (LeavesOne house.now.opened (map (λ client. client.seat) clients.items)) }
 {
-    let entrance = Door::new(listener, clients.len());
-    let door = &entrance;
+    let Hall { alloc, door, watch } = hall;
     thread::scope(
         thread::scope_env(),
         rt,
@@ -130,13 +124,16 @@ pub(crate) fn run_threads<
         {
             let reports = Vec::with_capacity(alloc, clients.len())?;
             let room = Vec::with_capacity(alloc, clients.len())?;
-            let rounds = Rounds::new(house, watch);
-            let Ok(workers) = Workers::start(scope, rt, house, incoming, OpenGate, rounds) else {
+            let gates = Gates {
+                commits: OpenGate,
+                checkpoints: Rounds::new(house, watch),
+            };
+            let Ok(workers) = Workers::start(scope, rt, house, incoming, gates) else {
                 watch.refused_thread();
                 finish_clients(rt, clients);
                 return Err(ThreadsFault::Memory);
             };
-            let threads = start_sessions(scope, rt, alloc, clients, door, watch, room)?;
+            let threads = start_sessions(scope, rt, clients, Hall { alloc, door, watch }, room)?;
             let joined = join_sessions(rt, house, threads, reports);
             let _ = workers.join(rt);
             look_last(rt, house, watch);

@@ -8,7 +8,9 @@ use Rattle.std.proofs.lemmas.List.Folds.{concat-append}
 use Rattle.hpb_rules.specs.declared.command.Command.{Command}
 use Rattle.hpb_rules.specs.declared.refusal.Refusal.{Refusal}
 use Rattle.hpb_rules.specs.AuctionValue.{AuctionValue}
-use Rattle.hpb_server.specs.Desk.{LooksStay, ShowsItself}
+use Rattle.hpb_server.specs.AuctionDesk.{auction_ways}
+use Rattle.hpb_server.specs.Desk.{LooksStay}
+use Rattle.hpb_server.specs.Ways.{Ways}
 use Rattle.hpb_server.specs.Telling.{accepted_text, sentence, Explains, ExplainsAt, IsOfSentence, Says, SaysAccepted}
 
 -- the empty text is a front of each text
@@ -54,13 +56,13 @@ pub accepted_none : (is_terminal : Bool) (a : Option (List ℕ)) → SaysAccepte
 accepted_none is_terminal a = accepted_only is_terminal a a (said_none a (accepted_text is_terminal))
 
 -- a look that leaves a desk at some state leaves it at its state before
-module _ {Desk State : Type 0} (is_at : Desk → State → Type 0) (looks : State → Option AuctionValue → State → Type 0) (stays : LooksStay looks) (state : State) (shown : Option AuctionValue) {desk : Desk} (looked : (next : State) × looks state shown next × is_at desk next) where
+module _ {Desk State : Type 0} (is_at : Desk → State → Type 0) (ways : Ways State) (stays : LooksStay ways) (state : State) (shown : Option AuctionValue) {desk : Desk} (looked : (next : State) × ways.looks state shown next × is_at desk next) where
   pub look_keeps : is_at desk state
   look_keeps = subst (λ (next : State). is_at desk next) (stays state looked.0 shown looked.1) looked.2
 
-  pub look_shows : looks state shown state
-  look_shows = subst (λ (next : State). looks state shown next) (stays state looked.0 shown looked.1) looked.1
+  pub look_shows : ways.looks state shown state
+  look_shows = subst (λ (next : State). ways.looks state shown next) (stays state looked.0 shown looked.1) looked.1
 
 -- a look at an auction in memory doesn't change it
-pub itself_stays : LooksStay ShowsItself
+pub itself_stays : LooksStay auction_ways
 itself_stays old new shown looks = looks.1

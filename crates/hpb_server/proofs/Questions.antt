@@ -11,6 +11,7 @@ use Rattle.hpb_wire.specs.Requests.{IsRequestOf}
 use Rattle.hpb_server.specs.Desk.{HasPlaces}
 use Rattle.hpb_server.specs.Serving.{AnswersLook, AnswersRequest}
 use Rattle.hpb_server.specs.Session.{view_in, IsQuestion}
+use Rattle.hpb_server.specs.Ways.{Ways}
 
 -- an auction has a place for each thing that a question of its definition names
 pub question_known : (definition shown : Rules) (request : Request) → IsQuestion (Ok request) → HasPlaces definition shown → IsRequestOf definition request → IsRequestOf shown request
@@ -20,9 +21,9 @@ question_known definition shown (requests.Node place) question places known = su
 question_known definition shown (requests.Who from) question places known = subst (λ (count : ℕ). from < count) (sym places.1) known
 
 -- the auction that the desk shows gives its answer
-pub question_answered : {State : Type 0} (rules : State → Rules) (over : State → Bool) (asks : State → Command → Reply → State → Type 0) (looks : State → Option AuctionValue → State → Type 0) {old new : State} {answer : List ℕ} (request : Request) → IsQuestion (Ok request)
-    → AnswersLook looks (view_in request) old answer new → AnswersRequest rules over asks looks old (Ok request) answer new
-question_answered rules over asks looks (requests.Command command) question looked = absurd question
-question_answered rules over asks looks requests.Show question looked = looked
-question_answered rules over asks looks (requests.Node place) question looked = looked
-question_answered rules over asks looks (requests.Who from) question looked = looked
+pub question_answered : {State : Type 0} (ways : Ways State) {old new : State} {answer : List ℕ} (request : Request) → IsQuestion (Ok request)
+    → AnswersLook ways (view_in request) old answer new → AnswersRequest ways old (Ok request) answer new
+question_answered ways (requests.Command command) question looked = absurd question
+question_answered ways requests.Show question looked = looked
+question_answered ways (requests.Node place) question looked = looked
+question_answered ways (requests.Who from) question looked = looked

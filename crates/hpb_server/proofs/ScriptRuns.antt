@@ -33,6 +33,7 @@ use Rattle.hpb_server.proofs.ScriptTexts.{script_is, text_is, text_grows}
 use Rattle.hpb_server.specs.Serving.{AreLines, Serves}
 use Rattle.hpb_server.specs.Desk.{rules_in, never_over, one_asked, no_memory, RepliesIn, ShowsItself}
 use Rattle.hpb_rules.specs.AuctionValue.{AuctionValue}
+use Rattle.hpb_server.specs.AuctionDesk.{auction_ways}
 
 -- ---- the kept bytes of the first line decide whether it is JSON
 json_short : (bytes : List ℕ) → KEPT_DEFINITION_BYTES < length bytes → length (take KEPT_DEFINITION_BYTES bytes) ≤ MOST_DEFINITION_BYTES → ⊥
@@ -189,7 +190,7 @@ module _ {reader_old reader_now : Option (List ℕ)} {input : Pending} {text : D
       answered_by errors.Reader front = inr front
       answered_by errors.Writer front = inr front
 
-      broken_by : (fault : SessionFault) (new : AuctionValue) → Serves rules_in never_over RepliesIn ShowsItself one_asked no_memory input.unread input.budget (streams reader_now writer_old) (streams reader_new writer_new) (first_value rules) new (Err fault)
+      broken_by : (fault : SessionFault) (new : AuctionValue) → Serves auction_ways input.unread input.budget (streams reader_now writer_old) (streams reader_new writer_new) (first_value rules) new (Err fault)
           → RunsScript (streams reader_old writer_old) (streams reader_new writer_new) (Err fault)
       broken_by fault new (inl never) = nothing_by (streams reader_old writer_old) (streams reader_new writer_new) fault (λ writer. memory_written (sym never.0 ∙ writer))
           ((after_line input.unread, Consumes-kept reader_old reader_now reader_new (after_line input.unread) ends.0 never.1.0, omega (arith, ends.1)), Appends-kept writer_old writer_old writer_new [] (Appends-nil writer_old) never.1.1)

@@ -18,9 +18,10 @@ use Rattle.hpb_server.specs.Reading.{HasNoEnd}
 use Rattle.hpb_server.specs.Script.{IsScriptText}
 use Rattle.hpb_server.specs.Serving.{AnswersInput, AreLines}
 use Rattle.hpb_server.proofs.Scripts.{lines_written, lines_front}
+use Rattle.hpb_server.specs.AuctionDesk.{auction_ways}
 
 -- the answers of an auction in memory to lines from the beginning are their text
-pub text_is : (rules : Rules) (new : AuctionValue) (lines text : List ℕ) → AnswersInput rules_in never_over RepliesIn ShowsItself (first_value rules) lines text new → text ≡ lines_text rules [] lines
+pub text_is : (rules : Rules) (new : AuctionValue) (lines text : List ℕ) → AnswersInput auction_ways (first_value rules) lines text new → text ≡ lines_text rules [] lines
 text_is rules new lines text h = lines_written (slice_split is_line_feed lines) (first_value rules) new text h ∙ text_is_shown (first_value rules) [] lines (tt, refl)
 
 -- the text of whole lines is a front of the text of more

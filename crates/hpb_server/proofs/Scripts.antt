@@ -27,10 +27,11 @@ use Rattle.hpb_server.specs.Fault.{lines_of, IsLeft, IsLeftOfScript}
 use Rattle.hpb_server.specs.Serving.{AreLines, shown_by, AnswersRequest, AnswersLines, Serves}
 use Rattle.hpb_server.specs.Streams.{Streams}
 use Rattle.hpb_server.specs.ScriptLaws.{InputIsText, ServesText, SessionIsText}
+use Rattle.hpb_server.specs.AuctionDesk.{auction_ways}
 
 -- ---- one request
 abbrev Asked : AuctionValue → Result Request Refusal → List ℕ → AuctionValue → Type 0
-Asked = AnswersRequest rules_in never_over RepliesIn ShowsItself
+Asked = AnswersRequest auction_ways
 
 -- a request is answered by the value, which becomes the next value
 answered : (request : Result Request Refusal) (old new : AuctionValue) (answer : List ℕ) → Asked old request answer new → (answer ≡ response_in old request) × (new ≡ value_after_request old request)
@@ -42,7 +43,7 @@ answered (Ok (requests.Who from)) old new answer h = (h.2 ∙ ap (shown_by (λ v
 
 -- ---- lines
 abbrev Lines : AuctionValue → List (List ℕ) → List ℕ → AuctionValue → Type 0
-Lines = AnswersLines rules_in never_over RepliesIn ShowsItself
+Lines = AnswersLines auction_ways
 
 -- it never ends a session
 pub never : false ≡ true → ⊥
@@ -150,7 +151,7 @@ session_is_text budget before after old new history (Err fault) shows (inr s) =
 
 -- so does a session that is described by the states of its desk
 pub moved_is_text : (budget : ℕ) (before after : Streams) (old new : AuctionValue) (history : List Command) (result : Result ⊤ SessionFault)
-    → Shows old history → Moves IsItself old new (λ state next. Serves rules_in never_over RepliesIn ShowsItself one_asked no_memory [] budget before after state next result)
+    → Shows old history → Moves IsItself old new (λ state next. Serves auction_ways [] budget before after state next result)
     → ServesText old.rules history budget before after new result
 moved_is_text budget before after old new history result shows moves =
     let served = moves old refl in

@@ -13,11 +13,12 @@ use Rattle.hpb_server.specs.Fault.{IsLeft}
 use Rattle.hpb_server.specs.Reading.{HasNoEnd}
 use Rattle.hpb_server.specs.Session.{Session, Broken}
 use Rattle.hpb_server.proofs.WholeLines.{leads_none, leads_append}
+use Rattle.hpb_server.specs.Ways.{Ways}
 
-module _ {State : Type 0} {rules : State → Rules} {over : State → Bool} {asks : State → Command → Reply → State → Type 0} {looks : State → Option AuctionValue → State → Type 0} {most : ℕ} {takes_memory : Bool} where
+module _ {State : Type 0} {ways : Ways State} where
   -- the state at the start of a session
   pub session_begins : (partial : List ℕ) {line unread output : List ℕ} {desk : State} {writer : Option (List ℕ)} → HasNoEnd partial → line ≡ take KEPT_BYTES partial
-      → Session rules over asks looks most takes_memory (partial ++ unread) desk desk writer writer output line unread output
+      → Session ways (partial ++ unread) desk desk writer writer output line unread output
   session_begins partial {output = output} {desk = desk} {writer = writer} no_end kept = record {
     done = [];
     rest = partial;
@@ -32,7 +33,7 @@ module _ {State : Type 0} {rules : State → Rules} {over : State → Bool} {ask
   }
 
   -- ---- a session and its continuation
-  module _ {start : List ℕ} {old now : State} {writer_old writer_now : Option (List ℕ)} {output_old line unread output : List ℕ} (s : Session rules over asks looks most takes_memory start old now writer_old writer_now output_old line unread output) where
+  module _ {start : List ℕ} {old now : State} {writer_old writer_now : Option (List ℕ)} {output_old line unread output : List ℕ} (s : Session ways start old now writer_old writer_now output_old line unread output) where
     parts_after : (done rest : List ℕ) → s.rest ++ unread ≡ done ++ rest → start ≡ (s.done ++ done) ++ rest
     parts_after done rest e = s.parts ∙ ap (λ xs. s.done ++ xs) e ∙ sym (append_assoc s.done done rest)
 
@@ -40,8 +41,8 @@ module _ {State : Type 0} {rules : State → Rules} {over : State → Bool} {ask
     owed_after text sent left e = sym (append_assoc output_old s.text text) ∙ ap (λ xs. xs ++ text) s.owed ∙ append_assoc s.sent output text ∙ ap (λ xs. s.sent ++ xs) e ∙ sym (append_assoc s.sent sent left)
 
     -- it goes on
-    pub session_more : {next : State} {writer_new : Option (List ℕ)} {line_new unread_new output_new : List ℕ} → Session rules over asks looks most takes_memory (s.rest ++ unread) now next writer_now writer_new output line_new unread_new output_new
-        → Session rules over asks looks most takes_memory start old next writer_old writer_new output_old line_new unread_new output_new
+    pub session_more : {next : State} {writer_new : Option (List ℕ)} {line_new unread_new output_new : List ℕ} → Session ways (s.rest ++ unread) now next writer_now writer_new output line_new unread_new output_new
+        → Session ways start old next writer_old writer_new output_old line_new unread_new output_new
     session_more {writer_new = writer_new} {unread_new = unread_new} {output_new = output_new} t = record {
       done = s.done ++ t.done;
       rest = t.rest;
@@ -56,7 +57,7 @@ module _ {State : Type 0} {rules : State → Rules} {over : State → Bool} {ask
     }
 
     -- it is broken off later
-    pub session_broken : {next : State} {writer_new : Option (List ℕ)} {fault : SessionFault} → Broken rules over asks looks most takes_memory (s.rest ++ unread) now next writer_now writer_new output fault → Broken rules over asks looks most takes_memory start old next writer_old writer_new output_old fault
+    pub session_broken : {next : State} {writer_new : Option (List ℕ)} {fault : SessionFault} → Broken ways (s.rest ++ unread) now next writer_now writer_new output fault → Broken ways start old next writer_old writer_new output_old fault
     session_broken {writer_new = writer_new} t = record {
       done = s.done ++ t.done;
       rest = t.rest;
@@ -70,7 +71,7 @@ module _ {State : Type 0} {rules : State → Rules} {over : State → Bool} {ask
     }
 
     -- its output is written
-    pub session_sent : {writer_new : Option (List ℕ)} {left : List ℕ} → Appends writer_now writer_new output → left ≡ [] → Session rules over asks looks most takes_memory start old now writer_old writer_new output_old line unread left
+    pub session_sent : {writer_new : Option (List ℕ)} {left : List ℕ} → Appends writer_now writer_new output → left ≡ [] → Session ways start old now writer_old writer_new output_old line unread left
     session_sent {writer_new = writer_new} w empty = record {
       done = s.done;
       rest = s.rest;
@@ -85,7 +86,7 @@ module _ {State : Type 0} {rules : State → Rules} {over : State → Bool} {ask
     }
 
     -- a front of its output is written
-    pub session_cut : {writer_new : Option (List ℕ)} (n : ℕ) → Appends writer_now writer_new (take n output) → Broken rules over asks looks most takes_memory start old now writer_old writer_new output_old Writer
+    pub session_cut : {writer_new : Option (List ℕ)} (n : ℕ) → Appends writer_now writer_new (take n output) → Broken ways start old now writer_old writer_new output_old Writer
     session_cut {writer_new = writer_new} n w = record {
       done = s.done;
       rest = s.rest ++ unread;
@@ -99,7 +100,7 @@ module _ {State : Type 0} {rules : State → Rules} {over : State → Bool} {ask
     }
 
     -- it is broken off at this point
-    abbrev pub session_stopped : (fault : SessionFault) → IsLeft most takes_memory fault output → Broken rules over asks looks most takes_memory start old now writer_old writer_now output_old fault
+    abbrev pub session_stopped : (fault : SessionFault) → IsLeft ways.most ways.takes_memory fault output → Broken ways start old now writer_old writer_now output_old fault
     session_stopped fault left = record {
       done = s.done;
       rest = s.rest ++ unread;
@@ -113,7 +114,7 @@ module _ {State : Type 0} {rules : State → Rules} {over : State → Bool} {ask
     }
 
     -- more is read if no byte is unread
-    pub session_read : (more : List ℕ) → unread ≡ [] → Session rules over asks looks most takes_memory (start ++ more) old now writer_old writer_now output_old line more output
+    pub session_read : (more : List ℕ) → unread ≡ [] → Session ways (start ++ more) old now writer_old writer_now output_old line more output
     session_read more none = record {
       done = s.done;
       rest = s.rest;

@@ -7,13 +7,14 @@ use Rattle.hpb_rules.specs.declared.reply.Reply.{Reply}
 use Rattle.hpb_rules.specs.Tree.{Rules}
 use Rattle.hpb_rules.specs.AuctionValue.{AuctionValue}
 use Rattle.hpb_rules.specs.Values.{reply_in, next_value}
+use Rattle.hpb_server.specs.Ways.{Ways}
 
 -- Commands are asked one after another. Once the session is over none is asked, and the rest gets no reply.
-abbrev pub AsksAll : {State : Type 0} (asks : State → Command → Reply → State → Type 0) (over : State → Bool) → State → List Command → List Reply → State → Type 0
-AsksAll {State} asks over old [] replies new = (new ≡ old) × (replies ≡ [])
-AsksAll {State} asks over old (command ∷ more) replies new =
-    ((over old ≡ true) × (new ≡ old) × (replies ≡ []))
-    ⊎ ((over old ≡ false) × (reply : Reply) × (rest : List Reply) × (next : State) × asks old command reply next × AsksAll asks over next more rest new × (replies ≡ reply ∷ rest))
+abbrev pub AsksAll : {State : Type 0} (ways : Ways State) → State → List Command → List Reply → State → Type 0
+AsksAll {State} ways old [] replies new = (new ≡ old) × (replies ≡ [])
+AsksAll {State} ways old (command ∷ more) replies new =
+    ((ways.over old ≡ true) × (new ≡ old) × (replies ≡ []))
+    ⊎ ((ways.over old ≡ false) × (reply : Reply) × (rest : List Reply) × (next : State) × ways.asks old command reply next × AsksAll ways next more rest new × (replies ≡ reply ∷ rest))
 
 -- The value of the auction that is shown, if one is.
 abbrev pub seen : Option (Bor AuctionValue) → Option AuctionValue
@@ -29,8 +30,8 @@ abbrev pub Moves : {Desk State : Type 0} (is_at : Desk → State → Type 0) (ol
 Moves {Desk} {State} is_at old new way = (state : State) → is_at old state → (next : State) × way state next × is_at new next
 
 -- A look doesn't change the state.
-abbrev pub LooksStay : {State : Type 0} (looks : State → Option AuctionValue → State → Type 0) → Type 0
-LooksStay {State} looks = (old new : State) (shown : Option AuctionValue) → looks old shown new → new ≡ old
+abbrev pub LooksStay : {State : Type 0} → Ways State → Type 0
+LooksStay {State} ways = (old new : State) (shown : Option AuctionValue) → ways.looks old shown new → new ≡ old
 
 -- The state of an auction in memory is its value.
 abbrev pub IsItself : AuctionValue → AuctionValue → Type 0

@@ -11,3 +11,4 @@ pub mod Session
 pub mod Script
 pub mod ScriptLaws
 pub mod Telling
+pub mod Ways

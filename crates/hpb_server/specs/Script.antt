@@ -19,10 +19,10 @@ use Rattle.hpb_server.specs.Fault.{IsLeftOfScript}
 use Rattle.hpb_server.specs.declared.input.TheConstants.{LINE_FEED}
 use Rattle.hpb_server.specs.declared.script.ScriptEnd.{ScriptEnd}
 use Rattle.hpb_server.specs.declared.script.ScriptEnd.TheVariants.{Answered, Refused}
-use Rattle.hpb_server.specs.Desk.{rules_in, never_over, one_asked, no_memory, RepliesIn, ShowsItself}
 use Rattle.hpb_server.specs.Reading.{HasNoEnd, Pending, most_taken, ReadsWithin}
 use Rattle.hpb_server.specs.Streams.{Streams}
 use Rattle.hpb_server.specs.Serving.{AreLines, Serves}
+use Rattle.hpb_server.specs.AuctionDesk.{auction_ways}
 
 -- The refusal that reports a fault of a definition. Refused memory is reported by none.
 abbrev pub IsTold : DefineCause → Refusal → Type 0
@@ -107,7 +107,7 @@ module _ (before after : Streams) where
 
   -- The lines of a script are answered from this value on.
   abbrev pub ServesScript : Pending → AuctionValue → Result ⊤ SessionFault → Type 0
-  ServesScript input value result = (new : AuctionValue) × Serves rules_in never_over RepliesIn ShowsItself one_asked no_memory input.unread input.budget before after value new result
+  ServesScript input value result = (new : AuctionValue) × Serves auction_ways input.unread input.budget before after value new result
 
 -- The line of a refusal was written. If memory was refused, nothing was; if the writer failed, a front of it was.
 abbrev pub WritesRefusal : (writer_old writer_new : Option (List ℕ)) (refusal : Refusal) → Result ScriptEnd SessionFault → Type 0

@@ -10,15 +10,15 @@ use Rattle.hpb_server.specs.declared.fault.SessionFault.{SessionFault}
 use Rattle.hpb_server.specs.declared.fault.SessionFault.TheVariants.{Memory, Reader}
 use Rattle.hpb_server.specs.Fault.{IsLeftOfScript}
 use Rattle.hpb_server.specs.Reading.{most_taken, HasNoEnd}
-use Rattle.hpb_server.specs.Desk.{rules_in, never_over, one_asked, no_memory, RepliesIn, ShowsItself}
 use Rattle.hpb_server.specs.Streams.{Streams, AreKept}
 use Rattle.hpb_server.specs.Serving.{AreLines, AnswersInput, Serves}
+use Rattle.hpb_server.specs.AuctionDesk.{auction_ways}
 
 -- An auction in memory that shows a history answers an input with the text of lines after this history. It then shows
 -- the history that the input leads to.
 abbrev pub InputIsText : Type 0
 InputIsText = (old new : AuctionValue) (history : List Command) (input text : List ℕ)
-    → Shows old history → AnswersInput rules_in never_over RepliesIn ShowsItself old input text new
+    → Shows old history → AnswersInput auction_ways old input text new
     → (text ≡ lines_text old.rules history input) × Shows new (history_after_lines old.rules history input)
 
 module _ (rules : Rules) (history : List Command) (budget : ℕ) (before after : Streams) (new : AuctionValue) where
@@ -64,5 +64,5 @@ module _ (rules : Rules) (history : List Command) (budget : ℕ) (before after :
 -- history. At a fault a front of that text is written, as much as the fault leaves.
 abbrev pub SessionIsText : Type 0
 SessionIsText = (budget : ℕ) (before after : Streams) (old new : AuctionValue) (history : List Command) (result : Result ⊤ SessionFault)
-    → Shows old history → Serves rules_in never_over RepliesIn ShowsItself one_asked no_memory [] budget before after old new result
+    → Shows old history → Serves auction_ways [] budget before after old new result
     → ServesText old.rules history budget before after new result

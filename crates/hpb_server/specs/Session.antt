@@ -4,7 +4,6 @@ use Rattle.std.specs.Io.KnownBytes.{Appends}
 use Rattle.hpb_rules.specs.declared.refusal.Refusal.{Refusal}
 use Rattle.hpb_rules.specs.declared.command.Command.{Command}
 use Rattle.hpb_rules.specs.declared.reply.Reply.{Reply}
-use Rattle.hpb_rules.specs.Tree.{Rules}
 use Rattle.hpb_rules.specs.Fronts.{IsFront}
 use Rattle.hpb_rules.specs.AuctionValue.{AuctionValue}
 use Rattle.hpb_rules.specs.declared.request.Request.{Request}
@@ -19,6 +18,7 @@ use Rattle.hpb_server.specs.Fault.{IsLeft, lines_of}
 use Rattle.hpb_server.specs.declared.line.TheConstants.{KEPT_BYTES}
 use Rattle.hpb_server.specs.Reading.{HasNoEnd}
 use Rattle.hpb_server.specs.Serving.{AreLines, AnswersRequest, AnswersInput}
+use Rattle.hpb_server.specs.Ways.{Ways}
 
 -- A front of the bytes was written, and the rest is left. Or, after a fault, a front was written, as much as the fault
 -- leaves.
@@ -55,36 +55,36 @@ view_in requests.Show value = shown_in value
 view_in (requests.Node place) value = node_shown_in value place
 view_in (requests.Who from) value = bidder_shown_in value from
 
-module _ {State : Type 0} (rules : State → Rules) (over : State → Bool) (asks : State → Command → Reply → State → Type 0) (looks : State → Option AuctionValue → State → Type 0) where
+module _ {State : Type 0} (ways : Ways State) where
   -- A request, or a refused line, was answered, and its answer was added. If memory was refused, nothing was added.
   abbrev pub AddsAnswer : {E : Type 0} → State → Result Request Refusal → State → (output_old output_new : List ℕ) → Result ⊤ E → Type 0
-  AddsAnswer old request new output_old output_new result = (answer : List ℕ) × AnswersRequest rules over asks looks old request answer new × Adds output_old output_new answer result
+  AddsAnswer old request new output_old output_new result = (answer : List ℕ) × AnswersRequest ways old request answer new × Adds output_old output_new answer result
 
   -- Requests were answered one after another, and none once the session is over. The definition stays.
   abbrev pub AnswersRequests : State → List (Result Request Refusal) → List ℕ → State → Type 0
   AnswersRequests old [] text new = (new ≡ old) × (text ≡ [])
   AnswersRequests old (request ∷ more) text new =
-      ((over old ≡ true) × (new ≡ old) × (text ≡ []))
-      ⊎ ((over old ≡ false) × (answer rest : List ℕ) × (next : State) × (rules next ≡ rules old) × AnswersRequest rules over asks looks old request answer next × AnswersRequests next more rest new × (text ≡ line_of answer ++ rest))
+      ((ways.over old ≡ true) × (new ≡ old) × (text ≡ []))
+      ⊎ ((ways.over old ≡ false) × (answer rest : List ℕ) × (next : State) × (ways.rules next ≡ ways.rules old) × AnswersRequest ways old request answer next × AnswersRequests next more rest new × (text ≡ line_of answer ++ rest))
 
   -- The first of these requests were answered, and the others wait: they are the commands of the queue. A front of the
   -- output with the answers was written, and the rest is in the output. If the session is broken off, a front was
   -- written.
-  pub record PassesRequests (most : ℕ) (takes_memory : Bool) (old : State) (asked : List (Result Request Refusal)) (new : State) (writer_old writer_new : Option (List ℕ)) (output_old output_new : List ℕ) (queue : List Command) (result : Result ⊤ SessionFault) : Type 0 where
+  pub record PassesRequests (old : State) (asked : List (Result Request Refusal)) (new : State) (writer_old writer_new : Option (List ℕ)) (output_old output_new : List ℕ) (queue : List Command) (result : Result ⊤ SessionFault) : Type 0 where
     pub answered : List (Result Request Refusal)
     pub waiting : List (Result Request Refusal)
     pub text : List ℕ
     pub parts : asked ≡ answered ++ waiting
     pub answers : AnswersRequests old answered text new
-    pub passes : Passes most takes_memory writer_old writer_new (output_old ++ text) output_new result
+    pub passes : Passes ways.most ways.takes_memory writer_old writer_new (output_old ++ text) output_new result
     pub queued : OnOk result (waiting ≡ asked_for queue)
 
   -- Whole lines were answered, and anything after them is answered from this state on.
   pub record Leads (old : State) (done text : List ℕ) (now : State) : Type 0 where
     pub whole : AreLines done
-    pub goes_on : (more rest : List ℕ) (end : State) → AnswersInput rules over asks looks now more rest end → AnswersInput rules over asks looks old (done ++ more) (text ++ rest) end
+    pub goes_on : (more rest : List ℕ) (end : State) → AnswersInput ways now more rest end → AnswersInput ways old (done ++ more) (text ++ rest) end
 
-  module _ (most : ℕ) (takes_memory : Bool) (start : List ℕ) (old now : State) (writer_old writer_now : Option (List ℕ)) (output_old : List ℕ) where
+  module _ (start : List ℕ) (old now : State) (writer_old writer_now : Option (List ℕ)) (output_old : List ℕ) where
     -- Of the bytes at the start, whole lines are answered, some bytes of one more line are taken, and the rest is
     -- unread. The unwritten answers are in the output.
     pub record Session (line unread output_now : List ℕ) : Type 0 where
@@ -109,7 +109,7 @@ module _ {State : Type 0} (rules : State → Rules) (over : State → Bool) (ask
       pub parts : start ≡ done ++ rest
       pub written : Appends writer_old writer_now sent
       pub front : IsFront sent (output_old ++ text)
-      pub left : IsLeft most takes_memory fault front.0
+      pub left : IsLeft ways.most ways.takes_memory fault front.0
 
     -- The session goes on, or it is broken off.
     abbrev pub Proceeds : (line unread output_now : List ℕ) → Result ⊤ SessionFault → Type 0

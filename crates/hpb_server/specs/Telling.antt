@@ -14,6 +14,7 @@ use Rattle.hpb_server.specs.declared.fault.SessionFault.{SessionFault}
 use Rattle.hpb_server.specs.declared.script.ScriptEnd.{ScriptEnd}
 use Rattle.hpb_server.specs.declared.script.ScriptEnd.TheVariants.{Answered, Refused}
 use Rattle.hpb_server.specs.declared.telling.TheConstants.{ACCEPTED}
+use Rattle.hpb_server.specs.Ways.{Ways}
 
 -- A front of a text was written: all of it, some of it or nothing.
 abbrev pub Says : (errors_old errors_new : Option (List ℕ)) → List ℕ → Type 0
@@ -48,13 +49,13 @@ sentence_of (Some value) command refusal = sentence value command refusal
 
 -- A front was written of the sentence for this command and this refusal, by an auction that the desk may show at its
 -- state, if it shows any.
-abbrev pub TellsShown : {State : Type 0} (looks : State → Option AuctionValue → State → Type 0) → State → Command → Refusal → (errors_old errors_new : Option (List ℕ)) → Type 0
-TellsShown looks state command refusal errors_old errors_new = (shown : Option AuctionValue) × looks state shown state × Says errors_old errors_new (sentence_of shown command refusal)
+abbrev pub TellsShown : {State : Type 0} → Ways State → State → Command → Refusal → (errors_old errors_new : Option (List ℕ)) → Type 0
+TellsShown ways state command refusal errors_old errors_new = (shown : Option AuctionValue) × ways.looks state shown state × Says errors_old errors_new (sentence_of shown command refusal)
 
 -- That holds if the reply is a refusal. If it isn't one, nothing was written.
-abbrev pub TellsReply : {State : Type 0} (looks : State → Option AuctionValue → State → Type 0) → State → Command → Reply → (errors_old errors_new : Option (List ℕ)) → Type 0
-TellsReply looks state command (replies.Ok number) errors_old errors_new = Keeps errors_old errors_new
-TellsReply looks state command (replies.Refused refusal) errors_old errors_new = TellsShown looks state command refusal errors_old errors_new
+abbrev pub TellsReply : {State : Type 0} → Ways State → State → Command → Reply → (errors_old errors_new : Option (List ℕ)) → Type 0
+TellsReply ways state command (replies.Ok number) errors_old errors_new = Keeps errors_old errors_new
+TellsReply ways state command (replies.Refused refusal) errors_old errors_new = TellsShown ways state command refusal errors_old errors_new
 
 -- A front, which may be empty, of the sentence that some auction, with any names, gives for some command and some
 -- refusal. It isn't claimed here that the command came, that it was refused so, or that the auction is the one that was

@@ -53,11 +53,11 @@ pub fn serve<R: Read, W: Write, D: Desk>(
     writer: &mut W,
     desk: &mut D,
 ) -> Result<(), SessionFault>
-    ensures served { Moves D.is_at desk.old desk.new (λ state next. Serves D.rules_at D.over_at D.asks D.looks D.most D.takes_memory [] MOST_READ_BYTES
+    ensures served { Moves D.is_at desk.old desk.new (λ state next. Serves D.ways [] MOST_READ_BYTES
         (streams (R.remaining reader.old) (W.contents writer.old)) (streams (R.remaining reader.new) (W.contents writer.new)) state next result) }
     ensures rules { D.rules desk.new ≡ D.rules desk.old }
-    ensures told { (state : D.State) → D.is_at desk.old state → (told : List Command) → D.tells state told
-        → (next : D.State) × D.is_at desk.new next × GoesOn told (D.tells next) }
+    ensures told { (state : D.State) → D.is_at desk.old state → (told : List Command) → D.ways.tells state told
+        → (next : D.State) × D.is_at desk.new next × GoesOn told (D.ways.tells next) }
 {
     serve_lines(alloc, reader, writer, &mut sink(), false, desk)
 }
@@ -71,8 +71,8 @@ pub(crate) fn serve_lines<R: Read, W: Write, E: Write, D: Desk>(
     is_terminal: bool,
     desk: &mut D,
 ) -> Result<(), SessionFault>
-    requires stays { is_terminal ≡ true → LooksStay D.looks }
-    ensures served { Moves D.is_at desk.old desk.new (λ state next. Serves D.rules_at D.over_at D.asks D.looks D.most D.takes_memory [] MOST_READ_BYTES
+    requires stays { is_terminal ≡ true → LooksStay D.ways }
+    ensures served { Moves D.is_at desk.old desk.new (λ state next. Serves D.ways [] MOST_READ_BYTES
         (streams (R.remaining reader.old) (W.contents writer.old)) (streams (R.remaining reader.new) (W.contents writer.new)) state next result) }
     ensures rules { D.rules desk.new ≡ D.rules desk.old }
     ensures explained { ExplainsAt is_terminal (E.contents errors.old) (E.contents errors.new) }
@@ -104,8 +104,8 @@ pub(crate) fn answer_lines<R: Read, W: Write, E: Write, D: Desk>(
     output: &mut Output,
 ) -> Result<(), SessionFault>
     requires sent { output.old ≡ [] }
-    requires stays { is_terminal ≡ true → LooksStay D.looks }
-    ensures served { Moves D.is_at desk.old desk.new (λ state next. Serves D.rules_at D.over_at D.asks D.looks D.most D.takes_memory input.old.unread input.old.budget
+    requires stays { is_terminal ≡ true → LooksStay D.ways }
+    ensures served { Moves D.is_at desk.old desk.new (λ state next. Serves D.ways input.old.unread input.old.budget
         (streams (R.remaining reader.old) (W.contents writer.old)) (streams (R.remaining reader.new) (W.contents writer.new)) state next result) }
     ensures rules { D.rules desk.new ≡ D.rules desk.old }
     ensures explained { ExplainsAt is_terminal (E.contents errors.old) (E.contents errors.new) }
@@ -157,9 +157,9 @@ fn answer_unread<W: Write, E: Write, D: Desk>(
     line: &mut Line,
     output: &mut Output,
 ) -> Result<(), SessionFault>
-    requires stays { is_terminal ≡ true → LooksStay D.looks }
+    requires stays { is_terminal ≡ true → LooksStay D.ways }
     ensures lines { Moves D.is_at desk.old desk.new (λ state next. (partial : List ℕ) → HasNoEnd partial → line.old ≡ take KEPT_BYTES partial
-        → Proceeds D.rules_at D.over_at D.asks D.looks D.most D.takes_memory (partial ++ input.old.unread) state next
+        → Proceeds D.ways (partial ++ input.old.unread) state next
         (W.contents writer.old) (W.contents writer.new) output.old
         line.new input.new.unread output.new result) }
     ensures rules { D.rules desk.new ≡ D.rules desk.old }
@@ -240,15 +240,15 @@ fn pass_request<W: Write, E: Write, D: Desk>(
     output: &mut Output,
 ) -> Result<(), SessionFault>
     requires goes_on { D.over desk.old ≡ false }
-    requires stays { is_terminal ≡ true → LooksStay D.looks }
-    requires room { length queue.old < D.most }
+    requires stays { is_terminal ≡ true → LooksStay D.ways }
+    requires room { length queue.old < D.ways.most }
     requires none { is_terminal ≡ true → queue.old ≡ [] }
     requires known { IfOk request (IsRequestOf (D.rules desk.old)) }
-    ensures passed { Moves D.is_at desk.old desk.new (λ state next. PassesRequests D.rules_at D.over_at D.asks D.looks D.most D.takes_memory state
+    ensures passed { Moves D.is_at desk.old desk.new (λ state next. PassesRequests D.ways state
         (asked_for queue.old ++ request ∷ []) next
         (W.contents writer.old) (W.contents writer.new) output.old output.new queue.new result) }
     ensures rules { D.rules desk.new ≡ D.rules desk.old }
-    ensures room { OnOk result (length queue.new < D.most) }
+    ensures room { OnOk result (length queue.new < D.ways.most) }
     ensures none { is_terminal ≡ true → OnOk result (queue.new ≡ []) }
     ensures over { OnOk result (D.over desk.new ≡ true → queue.new ≡ []) }
     ensures explained { ExplainsAt is_terminal (E.contents errors.old) (E.contents errors.new) }
@@ -284,14 +284,14 @@ fn pass_command<W: Write, E: Write, D: Desk>(
     output: &mut Output,
 ) -> Result<(), SessionFault>
     requires goes_on { D.over desk.old ≡ false }
-    requires stays { is_terminal ≡ true → LooksStay D.looks }
-    requires room { length queue.old < D.most }
+    requires stays { is_terminal ≡ true → LooksStay D.ways }
+    requires room { length queue.old < D.ways.most }
     requires none { is_terminal ≡ true → queue.old ≡ [] }
-    ensures passed { Moves D.is_at desk.old desk.new (λ state next. PassesRequests D.rules_at D.over_at D.asks D.looks D.most D.takes_memory state
+    ensures passed { Moves D.is_at desk.old desk.new (λ state next. PassesRequests D.ways state
         (asked_for queue.old ++ Ok (requests.Command command) ∷ []) next
         (W.contents writer.old) (W.contents writer.new) output.old output.new queue.new result) }
     ensures rules { D.rules desk.new ≡ D.rules desk.old }
-    ensures room { OnOk result (length queue.new < D.most) }
+    ensures room { OnOk result (length queue.new < D.ways.most) }
     ensures none { is_terminal ≡ true → OnOk result (queue.new ≡ []) }
     ensures over { OnOk result (D.over desk.new ≡ true → queue.new ≡ []) }
     ensures explained { ExplainsAt is_terminal (E.contents errors.old) (E.contents errors.new) }
@@ -321,16 +321,16 @@ fn ask_alone<W: Write, E: Write, D: Desk>(
     output: &mut Output,
 ) -> Result<(), SessionFault>
     requires goes_on { D.over desk.old ≡ false }
-    requires stays { is_terminal ≡ true → LooksStay D.looks }
-    requires sent { D.waits ≡ true → output.old ≡ [] }
-    ensures passed { Moves D.is_at desk.old desk.new (λ state next. PassesRequests D.rules_at D.over_at D.asks D.looks D.most D.takes_memory state
+    requires stays { is_terminal ≡ true → LooksStay D.ways }
+    requires sent { D.ways.waits ≡ true → output.old ≡ [] }
+    ensures passed { Moves D.is_at desk.old desk.new (λ state next. PassesRequests D.ways state
         (Ok (requests.Command command.now) ∷ []) next
         (W.contents writer.old) (W.contents writer.new) output.old output.new [] result) }
     ensures rules { D.rules desk.new ≡ D.rules desk.old }
     ensures explained { ExplainsAt is_terminal (E.contents errors.old) (E.contents errors.new) }
     // Behind an answer that was written stands the number that would do, by the auction that the desk then shows.
-    ensures told { is_terminal ≡ true → (state : D.State) → D.is_at desk.old state → OnOk result ((reply : Answered) × (next : D.State) × D.asks state command.now reply next
-        × TellsReply D.looks next command.now reply (E.contents errors.old) (E.contents errors.new)) }
+    ensures told { is_terminal ≡ true → (state : D.State) → D.is_at desk.old state → OnOk result ((reply : Answered) × (next : D.State) × D.ways.asks state command.now reply next
+        × TellsReply D.ways next command.now reply (E.contents errors.old) (E.contents errors.new)) }
 {
     match desk.ask_one(alloc, command) {
         Ok(reply) => {
@@ -355,8 +355,8 @@ fn pass_question<W: Write, D: Desk>(
 ) -> Result<(), SessionFault>
     requires question { IsQuestion question }
     requires known { IfOk question (IsRequestOf (D.rules desk.old)) }
-    requires room { length queue.old ≤ D.most }
-    ensures passed { Moves D.is_at desk.old desk.new (λ state next. PassesRequests D.rules_at D.over_at D.asks D.looks D.most D.takes_memory state
+    requires room { length queue.old ≤ D.ways.most }
+    ensures passed { Moves D.is_at desk.old desk.new (λ state next. PassesRequests D.ways state
         (asked_for queue.old ++ question ∷ []) next
         (W.contents writer.old) (W.contents writer.new) output.old output.new queue.new result) }
     ensures rules { D.rules desk.new ≡ D.rules desk.old }
@@ -380,8 +380,8 @@ fn ask_queue<W: Write, D: Desk>(
     queue: &mut Commands,
     output: &mut Output,
 ) -> Result<(), SessionFault>
-    requires { length queue.old ≤ D.most }
-    ensures passed { Moves D.is_at desk.old desk.new (λ state next. PassesRequests D.rules_at D.over_at D.asks D.looks D.most D.takes_memory state
+    requires { length queue.old ≤ D.ways.most }
+    ensures passed { Moves D.is_at desk.old desk.new (λ state next. PassesRequests D.ways state
         (asked_for queue.old) next
         (W.contents writer.old) (W.contents writer.new) output.old output.new queue.new result) }
     ensures rules { D.rules desk.new ≡ D.rules desk.old }
@@ -404,9 +404,9 @@ fn ask_waiting<W: Write, D: Desk>(
     output: &mut Output,
 ) -> Result<(), SessionFault>
     requires some { 0 < length queue.old }
-    requires most { length queue.old ≤ D.most }
-    requires sent { D.waits ≡ true → output.old ≡ [] }
-    ensures passed { Moves D.is_at desk.old desk.new (λ state next. PassesRequests D.rules_at D.over_at D.asks D.looks D.most D.takes_memory state
+    requires most { length queue.old ≤ D.ways.most }
+    requires sent { D.ways.waits ≡ true → output.old ≡ [] }
+    ensures passed { Moves D.is_at desk.old desk.new (λ state next. PassesRequests D.ways state
         (asked_for queue.old) next
         (W.contents writer.old) (W.contents writer.new) output.old output.new queue.new result) }
     ensures rules { D.rules desk.new ≡ D.rules desk.old }
@@ -430,7 +430,7 @@ fn send_first<W: Write, D: Desk>(
     output: &mut Output,
 ) -> Result<(), SessionFault>
     ensures passed { Passes 0 false (W.contents writer.old) (W.contents writer.new) output.old output.new result }
-    ensures sent { D.waits ≡ true → output.new ≡ [] }
+    ensures sent { D.ways.waits ≡ true → output.new ≡ [] }
 {
     if desk.waits_when_asked() {
         return output.send(writer);
@@ -501,7 +501,7 @@ fn answer_question<D: Desk>(
 ) -> Result<(), AllocError>
     requires question { IsQuestion question }
     requires known { IfOk question (IsRequestOf (D.rules desk.old)) }
-    ensures answer { Moves D.is_at desk.old desk.new (λ state next. AddsAnswer D.rules_at D.over_at D.asks D.looks state question next
+    ensures answer { Moves D.is_at desk.old desk.new (λ state next. AddsAnswer D.ways state question next
         output.old output.new result) }
     ensures rules { D.rules desk.new ≡ D.rules desk.old }
 {
@@ -520,7 +520,7 @@ fn answer_request<D: Desk>(
 ) -> Result<(), AllocError>
     requires question { IsQuestion (Ok request) }
     requires known { IsRequestOf (D.rules desk.old) request }
-    ensures answer { Moves D.is_at desk.old desk.new (λ state next. AddsAnswer D.rules_at D.over_at D.asks D.looks state (Ok request) next
+    ensures answer { Moves D.is_at desk.old desk.new (λ state next. AddsAnswer D.ways state (Ok request) next
         output.old output.new result) }
     ensures rules { D.rules desk.new ≡ D.rules desk.old }
 {

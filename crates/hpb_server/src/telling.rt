@@ -100,8 +100,8 @@ pub(crate) fn explain<E: Write, D: Desk>(
     reply: Reply,
     errors: &mut E,
 )
-    requires stays { is_terminal ≡ true → LooksStay D.looks }
-    ensures told { is_terminal ≡ true → (state : D.State) → D.is_at desk.old state → TellsReply D.looks state command.now reply (E.contents errors.old) (E.contents errors.new) }
+    requires stays { is_terminal ≡ true → LooksStay D.ways }
+    ensures told { is_terminal ≡ true → (state : D.State) → D.is_at desk.old state → TellsReply D.ways state command.now reply (E.contents errors.old) (E.contents errors.new) }
     ensures explained { ExplainsAt is_terminal (E.contents errors.old) (E.contents errors.new) }
     ensures kept { (state : D.State) → D.is_at desk.old state → D.is_at desk.new state }
     ensures rules { D.rules desk.new ≡ D.rules desk.old }
@@ -123,8 +123,8 @@ fn explain_refusal<E: Write, D: Desk>(
     refusal: Refusal,
     errors: &mut E,
 )
-    requires stays { LooksStay D.looks }
-    ensures told { (state : D.State) → D.is_at desk.old state → TellsShown D.looks state command.now refusal (E.contents errors.old) (E.contents errors.new) }
+    requires stays { LooksStay D.ways }
+    ensures told { (state : D.State) → D.is_at desk.old state → TellsShown D.ways state command.now refusal (E.contents errors.old) (E.contents errors.new) }
     ensures explained { Explains (E.contents errors.old) (E.contents errors.new) }
     ensures kept { (state : D.State) → D.is_at desk.old state → D.is_at desk.new state }
     ensures rules { D.rules desk.new ≡ D.rules desk.old }

@@ -26,8 +26,8 @@ pub fn serve_at_terminal<R: Read, W: Write, E: Write, D: Desk>(
     errors: &mut E,
     desk: &mut D,
 ) -> Result<(), SessionFault>
-    requires stays { LooksStay D.looks }
-    ensures served { Moves D.is_at desk.old desk.new (λ state next. Serves D.rules_at D.over_at D.asks D.looks D.most D.takes_memory [] MOST_READ_BYTES
+    requires stays { LooksStay D.ways }
+    ensures served { Moves D.is_at desk.old desk.new (λ state next. Serves D.ways [] MOST_READ_BYTES
         (streams (R.remaining reader.old) (W.contents writer.old)) (streams (R.remaining reader.new) (W.contents writer.new)) state next result) }
     ensures rules { D.rules desk.new ≡ D.rules desk.old }
     ensures explained { Explains (E.contents errors.old) (E.contents errors.new) }

@@ -1,13 +1,14 @@
 -- The bytes that a write in a slot leaves as they were.
 use Rattle.std.proofs.Common.{◌≡◌, ◌≢◌, ◌⊎◌, inl, inr, ℕ, ◌+◌, ◌<◌, ◌≤◌, List, [], ◌∷◌, length, refl, sym, ◌∙◌, ap, subst, arith}
 use Rattle.std.proofs.lemmas.Bool.{cases_lt}
-use Rattle.hpb_disk.specs.Images.{part, put, Torn, TornFrom, Within, Elapses}
+use Rattle.hpb_disk.specs.Device.{Device, LeavesOnly}
+use Rattle.hpb_disk.specs.Images.{part, put, Torn, TornFrom, Within}
 use Rattle.hpb_disk.specs.Laws.{ElsewhereStays, PutIsRead, PutIsTorn}
 use Rattle.hpb_slots.specs.declared.slot.Slot.{Slot}
 use Rattle.hpb_slots.specs.declared.slot.Slot.TheVariants.{First, Second}
 use Rattle.hpb_slots.specs.Slots.{place_of, gate_at, chunk_at, piece_of}
 use Rattle.hpb_slots.specs.Changes.{ChangesGate, ChangesChunk, TornGate, TornChunk}
-use Rattle.hpb_disk.proofs.Regions.{elapses_within}
+use Rattle.hpb_disk.proofs.Runs.{leaves_within}
 
 -- There are two slots.
 pub two : (slot : Slot) → place_of slot ≤ 1
@@ -62,11 +63,8 @@ module _ (elsewhere : ElsewhereStays) (tears : PutIsTorn) (slot : Slot) (at : �
     gate_rest byte old new inside written =
         gate_changes elsewhere slot old new (subst (λ (from : ℕ). Torn from 1 old new) here (subst (Torn at 1 old) (sym written) (tears at (byte ∷ []) old (omega (arith, inside)))))
 
-    pub gate_crash : (before after : List ℕ → Type 0) → Within after (TornFrom at 1 before) → Within after (TornGate slot before)
-    gate_crash before after crash image left = gate_within before image (crash image left)
-
-    pub gate_time : (moment now : ℕ) (past since : ℕ → List ℕ → Type 0) (before : List ℕ → Type 0) → Elapses moment now past since (TornFrom at 1 before) → Elapses moment now past since (TornGate slot before)
-    gate_time moment now past since before = elapses_within moment now past since (TornFrom at 1 before) (TornGate slot before) (gate_within before)
+    pub gate_crash : {old new : Device} → LeavesOnly old new (TornFrom at 1 old.may_leave) → LeavesOnly old new (TornGate slot old.may_leave)
+    gate_crash {old = old} crash = leaves_within (gate_within old.may_leave) crash
 
   module _ (i : ℕ) (some : i < 4) (bytes : List ℕ) (here : at ≡ chunk_at slot i) (size : length bytes ≡ 4096) where
     torn_here : (old new : List ℕ) → Torn at (length bytes) old new → Torn (chunk_at slot i) 4096 old new
@@ -78,11 +76,8 @@ module _ (elsewhere : ElsewhereStays) (tears : PutIsTorn) (slot : Slot) (at : �
     pub chunk_rest : (old new : List ℕ) → at + length bytes ≤ length old → new ≡ put at bytes old → ChangesChunk slot i old new
     chunk_rest old new inside written = chunk_changes elsewhere slot i some old new (torn_here old new (subst (Torn at (length bytes) old) (sym written) (tears at bytes old inside)))
 
-    pub chunk_crash : (before after : List ℕ → Type 0) → Within after (TornFrom at (length bytes) before) → Within after (TornChunk slot i before)
-    chunk_crash before after crash image left = chunk_within before image (crash image left)
-
-    pub chunk_time : (moment now : ℕ) (past since : ℕ → List ℕ → Type 0) (before : List ℕ → Type 0) → Elapses moment now past since (TornFrom at (length bytes) before) → Elapses moment now past since (TornChunk slot i before)
-    chunk_time moment now past since before = elapses_within moment now past since (TornFrom at (length bytes) before) (TornChunk slot i before) (chunk_within before)
+    pub chunk_crash : {old new : Device} → LeavesOnly old new (TornFrom at (length bytes) old.may_leave) → LeavesOnly old new (TornChunk slot i old.may_leave)
+    chunk_crash {old = old} crash = leaves_within (chunk_within old.may_leave) crash
 
     pub chunk_is : (reads : PutIsRead) (old new : List ℕ) → at + length bytes ≤ length old → new ≡ put at bytes old → piece_of slot i new ≡ bytes
     chunk_is reads old new inside written =

@@ -3,14 +3,12 @@ ghost use Rattle.std.specs.Prelude.{◌≡◌, ◌↔◌, ◌+◌, ◌≤◌, []
 ghost use Rattle.hpb_rules.specs.Tree.{Rules};
 ghost use Rattle.hpb_rules.specs.declared.saved.Saved.{Saved};
 ghost use Rattle.hpb_codec.specs.declared.state.TheConstants.{STATE_SIZE};
-ghost use Rattle.hpb_disk.specs.Asked.{Asks};
-ghost use Rattle.hpb_disk.specs.Images.{Within, Elapses, LeavesOnly, CountsFailure};
+ghost use Rattle.hpb_disk.specs.Device.{IsUnchanged, MakesCall, MakesReads};
 ghost use Rattle.hpb_slots.specs.declared.limits.TheConstants.{SLOTS_END};
 ghost use Rattle.hpb_slots.specs.declared.slot.Slot.TheVariants.{First, Second};
-ghost use Rattle.hpb_slots.specs.Slots.{IsBroken, IsOpen, body_of};
-ghost use Rattle.hpb_codec.specs.States.{count_in};
+ghost use Rattle.hpb_slots.specs.Slots.{IsOpen};
 ghost use Rattle.hpb_slots.specs.Newest.{IsWithout, IsRead};
-ghost use Rattle.hpb_slots.specs.Reading.{IsFound, IsChosen, state_of_slot};
+ghost use Rattle.hpb_slots.specs.Reading.{IsFound, IsChosen, IsToldOf, state_of_slot};
 
 use crate::found::Found;
 use crate::writing::gate_offset;
@@ -22,15 +20,10 @@ use hpb_tree::Definition;
 
 /// Reads whether the gate of a slot is open.
 pub fn slot_is_open<D: Disk>(disk: &mut D, slot: Slot) -> Result<bool, DiskFailed>
-    requires room { SLOTS_END ≤ length (D.seen disk.old) }
-    ensures open { IfOk result (λ is_open. IsTrue is_open ↔ IsOpen slot (D.seen disk.old)) }
-    ensures seen { D.seen disk.new ≡ D.seen disk.old }
-    ensures crash { Within (D.may_leave disk.new) (D.may_leave disk.old) }
-    ensures crash_kept { Within (D.may_leave disk.old) (D.may_leave disk.new) }
-    ensures time { Elapses (D.moment disk.old) (D.moment disk.new) (D.left_since disk.old) (D.left_since disk.new)
-        (D.may_leave disk.old) }
-    ensures cause { CountsFailure result (D.failures disk.old) (D.failures disk.new) }
-    ensures asked { Asks result [] (D.asked disk.old) (D.asked disk.new) }
+    requires room { SLOTS_END ≤ length (D.device disk.old).seen }
+    ensures open { IfOk result (λ is_open. IsTrue is_open ↔ IsOpen slot (D.device disk.old).seen) }
+    ensures unchanged { IsUnchanged (D.device disk.old) (D.device disk.new) }
+    ensures call { MakesCall result [] (D.device disk.old) (D.device disk.new) }
 {
     gate_is_open(disk, gate_offset(slot))
 }
@@ -43,17 +36,11 @@ fn read_slot<D: Disk>(
     body: &mut [u8],
     saved: &mut Saved,
 ) -> Result<Found, DiskFailed>
-    requires room { SLOTS_END ≤ length (D.seen disk.old) }
+    requires room { SLOTS_END ≤ length (D.device disk.old).seen }
     requires body { length body.old ≡ STATE_SIZE }
-    ensures found { IfOk result (λ found. IsFound definition.now slot (D.seen disk.old) saved.new found) }
-    ensures seen { D.seen disk.new ≡ D.seen disk.old }
-    ensures crash { Within (D.may_leave disk.new) (D.may_leave disk.old) }
-    ensures crash_kept { Within (D.may_leave disk.old) (D.may_leave disk.new) }
-    ensures time { LeavesOnly (D.moment disk.old) (D.moment disk.new) (D.left_since disk.old) (D.left_since disk.new)
-        (D.may_leave disk.new) (D.may_leave disk.old) }
-    ensures calls { D.moment disk.new ≤ D.moment disk.old + 2 }
-    ensures cause { CountsFailure result (D.failures disk.old) (D.failures disk.new) }
-    ensures asked { Asks result [] (D.asked disk.old) (D.asked disk.new) }
+    ensures found { IfOk result (λ found. IsFound definition.now slot (D.device disk.old).seen saved.new found) }
+    ensures unchanged { IsUnchanged (D.device disk.old) (D.device disk.new) }
+    ensures reads { MakesReads result 2 (D.device disk.old) (D.device disk.new) }
 {
     if !slot_is_open(disk, slot)? {
         return Ok(Found {
@@ -78,18 +65,11 @@ pub fn read_broken<D: Disk>(
     body: &mut [u8],
     saved: &mut Saved,
 ) -> Result<Option<u32>, DiskFailed>
-    requires room { SLOTS_END ≤ length (D.seen disk.old) }
+    requires room { SLOTS_END ≤ length (D.device disk.old).seen }
     requires body { length body.old ≡ STATE_SIZE }
-    ensures broken { IfOk result (λ broken. MatchOption broken (IsBroken definition.now slot (D.seen disk.old) → ⊥)
-        (λ count. IsBroken definition.now slot (D.seen disk.old) × (count ≡ count_in (body_of slot (D.seen disk.old))))) }
-    ensures seen { D.seen disk.new ≡ D.seen disk.old }
-    ensures crash { Within (D.may_leave disk.new) (D.may_leave disk.old) }
-    ensures crash_kept { Within (D.may_leave disk.old) (D.may_leave disk.new) }
-    ensures time { LeavesOnly (D.moment disk.old) (D.moment disk.new) (D.left_since disk.old) (D.left_since disk.new)
-        (D.may_leave disk.new) (D.may_leave disk.old) }
-    ensures calls { D.moment disk.new ≤ D.moment disk.old + 2 }
-    ensures cause { CountsFailure result (D.failures disk.old) (D.failures disk.new) }
-    ensures asked { Asks result [] (D.asked disk.old) (D.asked disk.new) }
+    ensures broken { IfOk result (IsToldOf definition.now slot (D.device disk.old).seen) }
+    ensures unchanged { IsUnchanged (D.device disk.old) (D.device disk.new) }
+    ensures reads { MakesReads result 2 (D.device disk.old) (D.device disk.new) }
 {
     let is_open = slot_is_open(disk, slot)?;
     if !is_open {
@@ -158,18 +138,12 @@ pub fn read_newest<D: Disk>(
     body: &mut [u8],
     saved: &mut Saved,
 ) -> Result<Option<Newest>, DiskFailed>
-    requires room { SLOTS_END ≤ length (D.seen disk.old) }
+    requires room { SLOTS_END ≤ length (D.device disk.old).seen }
     requires body { length body.old ≡ STATE_SIZE }
-    ensures newest { IfOk result (λ newest. IsRead definition.now (D.seen disk.old) saved.new newest) }
-    ensures seen { D.seen disk.new ≡ D.seen disk.old }
-    ensures crash { Within (D.may_leave disk.new) (D.may_leave disk.old) }
-    ensures crash_kept { Within (D.may_leave disk.old) (D.may_leave disk.new) }
-    ensures time { LeavesOnly (D.moment disk.old) (D.moment disk.new) (D.left_since disk.old) (D.left_since disk.new)
-        (D.may_leave disk.new) (D.may_leave disk.old) }
+    ensures newest { IfOk result (λ newest. IsRead definition.now (D.device disk.old).seen saved.new newest) }
+    ensures unchanged { IsUnchanged (D.device disk.old) (D.device disk.new) }
     // Two reads for each slot.
-    ensures calls { D.moment disk.new ≤ D.moment disk.old + 4 }
-    ensures cause { CountsFailure result (D.failures disk.old) (D.failures disk.new) }
-    ensures asked { Asks result [] (D.asked disk.old) (D.asked disk.new) }
+    ensures reads { MakesReads result 4 (D.device disk.old) (D.device disk.new) }
 {
     let first = read_slot(disk, Slot::First, definition, body, saved)?;
     let mut later = *saved;

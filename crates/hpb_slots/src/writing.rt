@@ -2,8 +2,8 @@
 ghost use Rattle.std.specs.Prelude.{◌≡◌, ◌<◌, ◌≤◌, [], ◌∷◌, length, true, false, OnOk};
 ghost use Rattle.hpb_codec.specs.declared.state.TheConstants.{CHUNKS, STATE_SIZE};
 ghost use Rattle.hpb_codec.specs.Laws.{chunk_of};
-ghost use Rattle.hpb_disk.specs.Asked.{Asks};
-ghost use Rattle.hpb_disk.specs.Images.{Within, Elapses, CountsFailure};
+ghost use Rattle.hpb_disk.specs.Device.{CountsFailure, LeavesOnly, MakesCall};
+ghost use Rattle.hpb_disk.specs.Images.{Within};
 ghost use Rattle.hpb_slots.specs.declared.limits.TheConstants.{SLOTS_END};
 ghost use Rattle.hpb_slots.specs.Slots.{IsOpen, IsClosed, chunk_at, gate_at, piece_of};
 ghost use Rattle.hpb_slots.specs.Writes.{writes_chunk, opens_slot, closes_slot};
@@ -31,19 +31,17 @@ pub fn write_chunk<D: Disk>(
     i: usize,
     body: &[u8],
 ) -> Result<(), DiskFailed>
-    requires room { SLOTS_END ≤ length (D.seen disk.old) }
+    requires room { SLOTS_END ≤ length (D.device disk.old).seen }
     requires body { length body.now ≡ STATE_SIZE }
     requires chunk { i < CHUNKS }
     // After a write that succeeds a read gives the chunk there. All else is as it was.
-    ensures written { OnOk result (piece_of slot i (D.seen disk.new) ≡ chunk_of i body.now) }
-    ensures rest { OnOk result (ChangesChunk slot i (D.seen disk.old) (D.seen disk.new)) }
-    ensures size { length (D.seen disk.new) ≡ length (D.seen disk.old) }
+    ensures written { OnOk result (piece_of slot i (D.device disk.new).seen ≡ chunk_of i body.now) }
+    ensures rest { OnOk result (ChangesChunk slot i (D.device disk.old).seen (D.device disk.new).seen) }
+    ensures size { length (D.device disk.new).seen ≡ length (D.device disk.old).seen }
     // A crash from then on, or within the call, may leave any bytes in this chunk, and elsewhere the same as before.
-    ensures crash { Within (D.may_leave disk.new) (TornChunk slot i (D.may_leave disk.old)) }
-    ensures time { Elapses (D.moment disk.old) (D.moment disk.new) (D.left_since disk.old) (D.left_since disk.new)
-        (TornChunk slot i (D.may_leave disk.old)) }
-    ensures cause { CountsFailure result (D.failures disk.old) (D.failures disk.new) }
-    ensures asked { Asks result (writes_chunk slot i body.now ∷ []) (D.asked disk.old) (D.asked disk.new) }
+    ensures crash { LeavesOnly (D.device disk.old) (D.device disk.new)
+        (TornChunk slot i (D.device disk.old).may_leave) }
+    ensures call { MakesCall result (writes_chunk slot i body.now ∷ []) (D.device disk.old) (D.device disk.new) }
 {
     elsewhere_stays();
     put_is_read();
@@ -57,15 +55,13 @@ pub fn write_chunk<D: Disk>(
 /// Opens the gate of a slot. The opening counts after the next sync. Until then a crash may leave the gate open or
 /// closed.
 pub fn open_slot<D: Disk>(disk: &mut D, slot: Slot) -> Result<(), DiskFailed>
-    requires room { SLOTS_END ≤ length (D.seen disk.old) }
-    ensures open { OnOk result (IsOpen slot (D.seen disk.new)) }
-    ensures rest { OnOk result (ChangesGate slot (D.seen disk.old) (D.seen disk.new)) }
-    ensures size { length (D.seen disk.new) ≡ length (D.seen disk.old) }
-    ensures crash { Within (D.may_leave disk.new) (TornGate slot (D.may_leave disk.old)) }
-    ensures time { Elapses (D.moment disk.old) (D.moment disk.new) (D.left_since disk.old) (D.left_since disk.new)
-        (TornGate slot (D.may_leave disk.old)) }
-    ensures cause { CountsFailure result (D.failures disk.old) (D.failures disk.new) }
-    ensures asked { Asks result (opens_slot slot ∷ []) (D.asked disk.old) (D.asked disk.new) }
+    requires room { SLOTS_END ≤ length (D.device disk.old).seen }
+    ensures open { OnOk result (IsOpen slot (D.device disk.new).seen) }
+    ensures rest { OnOk result (ChangesGate slot (D.device disk.old).seen (D.device disk.new).seen) }
+    ensures size { length (D.device disk.new).seen ≡ length (D.device disk.old).seen }
+    ensures crash { LeavesOnly (D.device disk.old) (D.device disk.new)
+        (TornGate slot (D.device disk.old).may_leave) }
+    ensures call { MakesCall result (opens_slot slot ∷ []) (D.device disk.old) (D.device disk.new) }
 {
     elsewhere_stays();
     put_is_torn();
@@ -75,17 +71,16 @@ pub fn open_slot<D: Disk>(disk: &mut D, slot: Slot) -> Result<(), DiskFailed>
 /// Closes the gate of a slot, if it may be open. A gate that is closed in every image that a crash may leave isn't
 /// written, since a torn byte could open it. The caller says so by `may_be_open`; then the device gets no call.
 pub fn close_slot<D: Disk>(disk: &mut D, slot: Slot, may_be_open: bool) -> Result<(), DiskFailed>
-    requires room { SLOTS_END ≤ length (D.seen disk.old) }
-    requires told { may_be_open ≡ false → Within (D.may_leave disk.old) (IsClosed slot) }
-    ensures closed { OnOk result (IsClosed slot (D.seen disk.new)) }
+    requires room { SLOTS_END ≤ length (D.device disk.old).seen }
+    requires told { may_be_open ≡ false → Within (D.device disk.old).may_leave (IsClosed slot) }
+    ensures closed { OnOk result (IsClosed slot (D.device disk.new).seen) }
     ensures left_alone { may_be_open ≡ false → disk.new ≡ disk.old }
-    ensures rest { may_be_open ≡ true → OnOk result (ChangesGate slot (D.seen disk.old) (D.seen disk.new)) }
-    ensures size { length (D.seen disk.new) ≡ length (D.seen disk.old) }
-    ensures crash { may_be_open ≡ true → Within (D.may_leave disk.new) (TornGate slot (D.may_leave disk.old)) }
-    ensures time { may_be_open ≡ true → Elapses (D.moment disk.old) (D.moment disk.new) (D.left_since disk.old) (D.left_since disk.new)
-        (TornGate slot (D.may_leave disk.old)) }
-    ensures cause { CountsFailure result (D.failures disk.old) (D.failures disk.new) }
-    ensures asked { may_be_open ≡ true → Asks result (closes_slot slot ∷ []) (D.asked disk.old) (D.asked disk.new) }
+    ensures rest { may_be_open ≡ true → OnOk result (ChangesGate slot (D.device disk.old).seen (D.device disk.new).seen) }
+    ensures size { length (D.device disk.new).seen ≡ length (D.device disk.old).seen }
+    ensures crash { may_be_open ≡ true → LeavesOnly (D.device disk.old) (D.device disk.new)
+        (TornGate slot (D.device disk.old).may_leave) }
+    ensures cause { CountsFailure result (D.device disk.old) (D.device disk.new) }
+    ensures call { may_be_open ≡ true → MakesCall result (closes_slot slot ∷ []) (D.device disk.old) (D.device disk.new) }
 {
     elsewhere_stays();
     put_is_torn();

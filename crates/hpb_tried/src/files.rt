@@ -1,6 +1,6 @@
 //! Files of each layout.
 ghost use Rattle.std.specs.Prelude.{◌≡◌, ℕ, List, length, replicate, IfOk};
-ghost use Rattle.hpb_disk.specs.FileDisks.{file_left, file_seen};
+ghost use Rattle.hpb_disk.specs.FileDisks.{file_device};
 ghost use Rattle.hpb_disk.specs.Images.{Within};
 ghost use Rattle.hpb_format.specs.Outcomes.{HasLength};
 ghost use Rattle.hpb_tried.specs.Files.{IsNewOf, least_shape, least_size};
@@ -51,7 +51,7 @@ pub fn size_of(layout: u8) -> usize
 
 /// A new file of zeros, in place of the old one.
 pub fn new_file(rt: &HostRuntime, layout: u8) -> Result<FileDisk>
-    ensures { IfOk result (λ disk. file_seen disk ≡ replicate (least_size layout) 0) }
+    ensures { IfOk result (λ disk. (file_device disk).seen ≡ replicate (least_size layout) 0) }
 {
     let _ = fs::remove_file(rt, FILE);
     Ok(FileDisk::make(rt, rt.alloc(), FILE, size_of(layout))?)
@@ -59,7 +59,7 @@ pub fn new_file(rt: &HostRuntime, layout: u8) -> Result<FileDisk>
 
 /// A new file that keeps an auction of this many nodes.
 pub fn formatted(rt: &HostRuntime, nodes: u64, layout: u8) -> Result<FileDisk>
-    ensures { IfOk result (λ disk. Within (file_left disk) (IsNewOf nodes layout)) }
+    ensures { IfOk result (λ disk. Within (file_device disk).may_leave (IsNewOf nodes layout)) }
 {
     let alloc = rt.alloc();
     let shape = shape_of(layout);

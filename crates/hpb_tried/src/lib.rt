@@ -1,5 +1,5 @@
 //! A call that is tried while a request for memory is refused: its arguments, its begin and end, and its result.
-//! `examples/refuse-memory` and `examples/refuse-calls` run the program that makes such calls.
+//! `tests/memory` runs the program that makes such calls.
 //!
 //! Devices are in a file: such a device takes no memory once it is there.
 #![tactic(auto)]

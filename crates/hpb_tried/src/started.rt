@@ -1,6 +1,6 @@
 //! An opened device, an engine over it, and their sums.
 ghost use Rattle.std.specs.Prelude.{◌≡◌, ◌↔◌, ℕ, false, IfOk, IsTrue};
-ghost use Rattle.hpb_disk.specs.FileDisks.{file_seen};
+ghost use Rattle.hpb_disk.specs.FileDisks.{file_device};
 ghost use Rattle.hpb_disk.specs.Images.{Within};
 ghost use Rattle.hpb_tried.specs.Files.{IsFirst, IsNewOf};
 ghost use Rattle.hpb_tried.specs.FileSums.{IsGiven, told_by};
@@ -18,8 +18,8 @@ use std::alloc::{AllocError, Global};
 
 /// Opens a new device.
 fn open_new<D: Disk + Drop>(alloc: Global, disk: D) -> Result<Opened<D>>
-    ensures device { (nodes layout : ℕ) → Within (D.may_leave disk) (IsNewOf nodes layout) → IfOk result (λ opened. IsNewOf nodes layout (D.seen opened.disk)) }
-    ensures auction { (nodes layout : ℕ) → Within (D.may_leave disk) (IsNewOf nodes layout) → IfOk result (λ opened. IsFirst nodes opened.plan.auction) }
+    ensures device { (nodes layout : ℕ) → Within (D.device disk).may_leave (IsNewOf nodes layout) → IfOk result (λ opened. IsNewOf nodes layout (D.device opened.disk).seen) }
+    ensures auction { (nodes layout : ℕ) → Within (D.device disk).may_leave (IsNewOf nodes layout) → IfOk result (λ opened. IsFirst nodes opened.plan.auction) }
 {
     heads_are_one();
     match open(alloc, disk) {
@@ -30,7 +30,7 @@ fn open_new<D: Disk + Drop>(alloc: Global, disk: D) -> Result<Opened<D>>
 
 /// A new file of an auction of this many nodes, opened.
 pub fn opened(rt: &HostRuntime, nodes: u64, layout: u8) -> Result<Opened<FileDisk>>
-    ensures device { IfOk result (λ opened. IsNewOf nodes layout (file_seen opened.disk)) }
+    ensures device { IfOk result (λ opened. IsNewOf nodes layout (file_device opened.disk).seen) }
     ensures auction { IfOk result (λ opened. IsFirst nodes opened.plan.auction) }
 {
     let disk = formatted(rt, nodes, layout)?;
@@ -39,7 +39,7 @@ pub fn opened(rt: &HostRuntime, nodes: u64, layout: u8) -> Result<Opened<FileDis
 
 /// An engine over such a file.
 pub fn engine(rt: &HostRuntime, nodes: u64, layout: u8) -> Result<Engine<FileDisk>>
-    ensures device { IfOk result (λ engine. IsNewOf nodes layout (file_seen engine.disk)) }
+    ensures device { IfOk result (λ engine. IsNewOf nodes layout (file_device engine.disk).seen) }
     ensures auction { IfOk result (λ engine. IsFirst nodes engine.progress.committed) }
     ensures works { IfOk result (λ engine. engine.failed ≡ false) }
 {

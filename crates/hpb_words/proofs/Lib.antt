@@ -1,4 +1,3 @@
 mod Asking
-mod Lines
 mod Options
 mod ValueTexts

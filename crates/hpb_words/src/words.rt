@@ -16,7 +16,7 @@ use std::convert::AsStr;
 use thiserror::Error;
 
 /// The version, and the line of the kit with which the program is proved.
-const VERSION: &str = "0.1.0\nrattle-kit-13b logic dac8208d650f15bf";
+const VERSION: &str = "0.1.0\nrattle-kit-13f logic dac8208d650f15bf";
 
 const USAGE: &str = r#"hpb < SCRIPT
        hpb format --file F --journal J [--layout 1|2] < DEFINITION

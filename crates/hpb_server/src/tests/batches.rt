@@ -43,33 +43,24 @@ impl Desk for BatchDesk {
 
     ghost is_at = { λ d state. (state.0 ≡ d.auction.rules) × (state.1 ≡ d.is_over) };
 
-    ghost rules_at = { λ state. state.0 };
-
-    ghost over_at = { λ state. state.1 };
-
-    ghost tells = { λ state told. ⊥ };
-
-    ghost asks = { λ old command reply new. new.0 ≡ old.0 };
-
-    ghost looks = { λ old shown new. Unit {0} };
-
-    ghost most = { MOST_LETTERS };
-
-    ghost takes_memory = { true };
-
-    ghost waits = { true };
+    ghost ways = { record {
+      rules = λ state. state.0;
+      over = λ state. state.1;
+      tells = λ state told. ⊥;
+      asks = λ old command reply new. new.0 ≡ old.0;
+      looks = λ old shown new. Unit {0};
+      most = MOST_LETTERS;
+      takes_memory = true;
+      waits = true;
+      most_is_some = (omega arith, omega arith);
+      rules_stay = λ old new command reply stays. stays;
+      replies_go_on = λ old new command reply told asked tells. absurd tells;
+      shows_go_on = λ old new shown told looked tells. absurd tells;
+    } };
 
     ghost rules_are = { λ d state at. at.0 };
 
     ghost over_is = { λ d state at. at.1 };
-
-    ghost most_is_some = { (omega arith, omega arith) };
-
-    ghost rules_stay = { λ old new command reply stays. stays };
-
-    ghost replies_go_on = { λ old new command reply told asked tells. absurd tells };
-
-    ghost shows_go_on = { λ old new shown told looked tells. absurd tells };
 
     fn definition(&self) -> &Definition {
         self.auction.definition()

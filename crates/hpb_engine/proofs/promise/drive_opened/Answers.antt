@@ -2,6 +2,7 @@ use Rattle.std.proofs.Common.{◌≡◌, ℕ, Bool, false, reverse, ap, subst}
 use Rattle.hpb_rules.specs.Answer.{IsPast}
 use Rattle.hpb_rules.specs.Machine.{at_rest}
 use Rattle.hpb_rules.specs.Tree.{Rules}
+use Rattle.hpb_engine.specs.Engines.{running_of}
 use Rattle.hpb_engine.specs.Runs.{Ran}
 use Rattle.hpb_engine.proofs.Counting.{counts}
 use Rattle.hpb_engine.proofs.Moving.{survived}
@@ -16,11 +17,11 @@ returns-in-Ok-drive-clause-survives g c first stands =
     let ruled : engine.progress.committed.rules ≡ rules = ap (λ v. v.rules) c.in-Ok.ensures.started.committed in
     let keeps = c.in-Ok.ensures.keeps first stands in
     let is = subst (λ (r : Rules). IsPast r (reverse first)) ruled keeps.shows.0 in
-    let RanAt : ℕ → Bool → Type 0 = λ at failed. Ran d.seen d.may_leave d.moment d.left_since (record { moment = at; progress = engine.progress; failed = failed; machine = at_rest first })
-    c.args.events.now driven.engine.disk driven.engine.progress driven.engine.failed driven.answers.items driven.fault in
-    let ran : RanAt (d.moment c.args.opened.disk) false =
-    subst (λ (at : ℕ). RanAt at false) (ap d.moment c.in-Ok.ensures.disk)
-    (subst (RanAt (d.moment engine.disk)) c.in-Ok.ensures.works (c.in-Ok-drive.ensures.ran (at_rest first) keeps)) in
-    let it = survived c.run_joins.ensures c.run_is_moves.ensures c.rest_is_sound.ensures c.fits_grow.ensures counts rules first is d.seen d.may_leave d.moment d.left_since
-    (d.moment c.args.opened.disk) engine.progress driven.engine.progress driven.engine.failed c.args.events.now driven.engine.disk driven.answers.items driven.fault ruled ran in
-    (it.0, record { begun = engine.progress; started = c.in-Ok.ensures.started; ran = ran; paused = it.1 })
+    let RanAt : ℕ → Bool → Type 0 = λ at failed. Ran (record { moment = at; progress = engine.progress; failed = failed; machine = at_rest first })
+    c.args.events.now (running_of driven.engine) driven.answers.items driven.fault in
+    let ran : RanAt (d.device c.args.opened.disk).moment false =
+    subst (λ (at : ℕ). RanAt at false) (ap (λ disk. (d.device disk).moment) c.in-Ok.ensures.disk)
+    (subst (RanAt (d.device engine.disk).moment) c.in-Ok.ensures.works (c.in-Ok-drive.ensures.ran (at_rest first) keeps)) in
+    let it = survived c.run_joins.ensures c.run_is_moves.ensures c.rest_is_sound.ensures c.fits_grow.ensures counts rules first is
+    (d.device c.args.opened.disk) engine.progress c.args.events.now (running_of driven.engine) driven.answers.items driven.fault ruled ran in
+    record { survives = it.0; of_engine = record { begun = engine.progress; started = c.in-Ok.ensures.started; ran = ran; paused = it.1 } }

@@ -6,10 +6,9 @@ use Rattle.hpb_engine.proofs.promise.drive_then_open.Goals as goal
 pub returns-in-Ok-open-clause-kept : goal.returns-in-Ok-open-clause-kept
 returns-in-Ok-open-clause-kept g c first stands =
     let run = c.in-Ok.ensures.survives first stands in (
-      run.0,
-      run.1,
+      run,
       λ before point later left.
-          let found = found_at run.0 before point later left in
+          let found = found_at run.survives before point later left in
           record {
             history = found.history;
             shows = c.in-Ok-open.ensures.shows found.history found.stands;
@@ -22,7 +21,7 @@ returns-in-Ok-open-clause-kept g c first stands =
 pub returns-in-Err-open-clause-kept : goal.returns-in-Err-open-clause-kept
 returns-in-Err-open-clause-kept g c first stands =
     let run = c.in-Ok.ensures.survives first stands in
-    (run.0, run.1, λ before point later left. let found = found_at run.0 before point later left in c.in-Err-open.ensures.stands found.history found.stands)
+    (run, λ before point later left. let found = found_at run.survives before point later left in c.in-Err-open.ensures.stands found.history found.stands)
 
 pub returns-in-Ok-open-clause-best : goal.returns-in-Ok-open-clause-best
 returns-in-Ok-open-clause-best g c = subst IsBestChoice c.auction.ensures c.revenue.ensures.best

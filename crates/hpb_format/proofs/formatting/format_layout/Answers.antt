@@ -19,6 +19,5 @@ returns-in-Some-clause-unnamed g c none = absurd (none (shape c.in-Some.layout c
 
 pub returns-in-Some-clause-formats : goal.returns-in-Some-clause-formats
 returns-in-Some-clause-formats g c journal names =
-    let d = g.D.Disk in
-    subst (λ (j : JournalShape). FormatsAs d.seen d.may_leave d.moment d.left_since d.failures d.asked c.args.definition.now j c.args.disk (given c.format_shape.result) (answer_of c.format_shape.result))
+    subst (λ (j : JournalShape). FormatsAs g.D.Disk.device c.args.definition.now j c.args.disk (given c.format_shape.result) (answer_of c.format_shape.result))
     (named c.args.layout c.args.frames c.in-Some.layout journal names (c.in-Some.ensures.only journal.layout names.layout_is)) c.format_shape.ensures

@@ -9,13 +9,11 @@ whole_trail-whole-requires g c = λ i d lt. c.requires i d lt ∙ sym c.front.en
 
 pub returns-clause-back : goal.returns-clause-back
 returns-clause-back g c =
-    let facts = c.facts.ensures in
     let front = c.front.ensures in
     let trail = c.trail-published.ensures in
     let whole = c.whole_trail-whole.ensures in
     let finish = c.finish-disk.ensures in
     let book = sym front.0 ∙ sym whole.book in
-    rw (finish.disk, finish.committed, finish.in_flight, c.has_failed-has_failed.ensures)
-    (gives_back g.D.Disk.seen g.D.Disk.may_leave g.D.Disk.failures g.met.D.Disk.seen_may_stay c.judged_is_shown.ensures c.args.keeper facts.begins facts.keeps
-    c.trail-published.result c.whole_trail-whole.result c.args.reports.now trail.1 facts.shown facts.prepared facts.judged facts.told (trail.0 ∙ book)
-    (subst (λ (l : List (List Letter)). IsPrefix l c.whole_trail-whole.result.log) front.1 whole.this) (λ i d lt. c.requires i d lt ∙ book) whole.each)
+    gives_back g.D.Disk.device c.judged_is_shown.ensures c.args.keeper c.facts.ensures
+    finish.disk finish.committed c.has_failed-has_failed.ensures finish.in_flight trail.1 (trail.0 ∙ book)
+    (subst (λ (l : List (List Letter)). IsPrefix l c.whole_trail-whole.result.log) front.1 whole.this) (λ i d lt. c.requires i d lt ∙ book) whole.each

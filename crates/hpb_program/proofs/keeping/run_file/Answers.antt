@@ -1,6 +1,6 @@
 use Rattle.std.proofs.Common.{[], refl}
 use Rattle.std.proofs.lemmas.Result.{err_from_is_err_and}
-use Rattle.hpb_disk.specs.FileDisks.{file_seen}
+use Rattle.hpb_disk.specs.FileDisks.{file_device}
 use Rattle.hpb_program.proofs.Doubting.{told_unopened_file}
 use Rattle.hpb_program.proofs.Kept.{are_kept, of_not_opened, of_opening}
 use Rattle.hpb_program.proofs.keeping.run_file.Goals as goal
@@ -15,6 +15,6 @@ returns-in_err-disk g c = let p = err_from_is_err_and c.from_residual.result c.f
 
 pub returns-in_err-ran : goal.returns-in_err-ran
 returns-in_err-ran g c =
-    let image = file_seen c.in_ok-disk.disk in
+    let image = (file_device c.in_ok-disk.disk).seen in
     let met = c.in_err-ran.ensures in
     let p = err_from_is_err_and c.from_residual-in_err-ran.result c.from_residual-in_err-ran.ensures.1 in rw (p.1, p.2) record { runs = (of_not_opened image _ met.fault, met.nothing, (image, met.told)) }

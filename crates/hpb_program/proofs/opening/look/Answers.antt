@@ -5,8 +5,7 @@ use Rattle.hpb_program.proofs.opening.look.Goals as goal
 
 pub opened_still-requires-clause-durable : goal.opened_still-requires-clause-durable
 opened_still-requires-clause-durable g c =
-    let d = g.D.Disk in
-    durable_still d.seen d.may_leave d.moment d.left_since _ c.args.opened.disk c.find_doubts.new.disk c.args.opened.durable c.find_doubts.ensures.quiet
+    durable_still _ (g.D.Disk.device c.args.opened.disk) (g.D.Disk.device c.find_doubts.new.disk) c.args.opened.durable c.find_doubts.ensures.reads.quiet
 
 pub opened_still-requires-clause-read : goal.opened_still-requires-clause-read
-opened_still-requires-clause-read g c = subst (IsPlan c.args.opened.plan) (sym c.find_doubts.ensures.quiet.same) c.args.opened.read
+opened_still-requires-clause-read g c = subst (IsPlan c.args.opened.plan) (sym c.find_doubts.ensures.reads.quiet.same) c.args.opened.read

@@ -8,7 +8,7 @@ use Rattle.hpb_program.proofs.Doubting.{not_looked, tells}
 use Rattle.hpb_program.proofs.opening.open_kept.Goals as goal
 
 pub returns-in_err-looked-clause-fault : goal.returns-in_err-looked-clause-fault
-returns-in_err-looked-clause-fault g c = let p = err_from_is_err_and c.from_residual.result c.from_residual.ensures.1 in rw (p.1, p.2) (not_looked (g.D.Disk.seen c.args.disk) _ c.in_err-looked.ensures.fault)
+returns-in_err-looked-clause-fault g c = let p = err_from_is_err_and c.from_residual.result c.from_residual.ensures.1 in rw (p.1, p.2) (not_looked (g.D.Disk.device c.args.disk).seen _ c.in_err-looked.ensures.fault)
 
 pub returns-in_err-looked-clause-untold : goal.returns-in_err-looked-clause-untold
 returns-in_err-looked-clause-untold g c = rw (err_from_is_err_and c.from_residual.result c.from_residual.ensures.1).1 (Keeps-refl _)
@@ -18,8 +18,8 @@ returns-in_err-line-clause-untold g c = rw (err_from_is_err_and c.from_residual-
 
 pub returns-clause-told : goal.returns-clause-told
 returns-clause-told g c =
-    tells c.in-Ok.opened.plan c.in_ok-looked.looked.opened.plan (g.D.Disk.seen c.in-Ok.opened.disk) (g.D.Disk.seen c.args.disk) _ _ c.in_ok-looked.looked.doubts.slot c.in_ok-looked.looked.doubts.frame
-    c.count.result c.as_bytes.result.now c.in_ok-looked.ensures.plan c.in-Ok.ensures.same c.in_ok-looked.ensures.slot c.in_ok-looked.ensures.frame c.count.ensures.value
+    tells c.in-Ok.opened.plan c.in_ok-looked.looked.opened.plan (g.D.Disk.device c.in-Ok.opened.disk).seen (g.D.Disk.device c.args.disk).seen _ _ c.in_ok-looked.looked.doubts.slot c.in_ok-looked.looked.doubts.frame
+    c.count.result c.as_bytes.result.now c.in_ok-looked.ensures.plan c.in-Ok.ensures.quiet.same c.in_ok-looked.ensures.slot c.in_ok-looked.ensures.frame c.count.ensures.value
     (c.as_bytes.ensures.value ∙ c.in_ok-line.ensures) c.say.ensures
 
 pub returns-in_err-line-clause-fault : goal.returns-in_err-line-clause-fault
@@ -35,12 +35,12 @@ returns-clause-read g c =
 
 pub returns-clause-plan : goal.returns-clause-plan
 returns-clause-plan g c =
-    let image = g.D.Disk.seen c.args.disk in
-    let here = subst (IsPlan c.in-Ok.opened.plan) c.in-Ok.ensures.same c.in-Ok.opened.read in
+    let image = (g.D.Disk.device c.args.disk).seen in
+    let here = subst (IsPlan c.in-Ok.opened.plan) c.in-Ok.ensures.quiet.same c.in-Ok.opened.read in
     subst (λ (plan : Plan). IsPlan plan image) (sym c.in_ok-looked.ensures.plan) here
 
 pub returns-clause-same : goal.returns-clause-same
-returns-clause-same g c = c.in_ok-looked.ensures.same ∙ c.in-Ok.ensures.same
+returns-clause-same g c = c.in_ok-looked.ensures.same ∙ c.in-Ok.ensures.quiet.same
 
 pub returns-clause-works : goal.returns-clause-works
 returns-clause-works g c = c.in_ok-looked.ensures.works ∙ c.in-Ok.ensures.works

@@ -1,11 +1,12 @@
 use Rattle.std.proofs.Common.{◌≡◌, ◌<◌, None, length, take, refl, ◌∙◌, arith}
 use Rattle.hpb_server.specs.Desk.{AsksAll}
 use Rattle.hpb_serve.specs.InFlight.{CameFrom}
-use Rattle.hpb_serve.specs.Sessions.{DeskStands, RepliesAt, State, over_at}
+use Rattle.hpb_serve.specs.Sessions.{DeskStands, State}
 use Rattle.hpb_serve.proofs.InFlight.{HavePosted, all_answered, front_answered, posted_start, rest_refused}
 use Rattle.hpb_serve.proofs.asking.ask_client.Given.{Over}
 use Rattle.hpb_serve.proofs.asking.ask_client.Goals.{After-post_letters-posted, In_default}
 use Rattle.hpb_serve.proofs.asking.ask_client.Goals as goal
+use Rattle.hpb_serve.specs.Telling.{house_ways}
 
 -- this many commands are posted
 posted : (g : Over) (c : After-post_letters-posted g) (state : State) → DeskStands c.args.client.now None state
@@ -16,7 +17,7 @@ posted g c state stands =
 
 -- all that were posted are answered
 all_taken : (g : Over) (c : In_default g) (state : State) → DeskStands c.args.client.now None state
-    → (next : State) × AsksAll RepliesAt over_at state (take (length c.take_answers.new.replies) (take c.post_letters-posted.result c.args.commands.now)) c.take_answers.new.replies next
+    → (next : State) × AsksAll house_ways state (take (length c.take_answers.new.replies) (take c.post_letters-posted.result c.args.commands.now)) c.take_answers.new.replies next
     × CameFrom next c.take_answers.new.client × (0 < length c.take_answers.new.replies → DeskStands c.take_answers.new.client None next)
     × (length c.take_answers.new.replies ≡ c.post_letters-posted.result)
 all_taken g c state stands =

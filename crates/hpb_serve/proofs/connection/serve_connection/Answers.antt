@@ -1,5 +1,8 @@
-use Rattle.std.proofs.Common.{sym, subst}
+use Rattle.std.proofs.Common.{◌∙◌, sym, subst}
 use Rattle.hpb_board.specs.Publication.{Viewing}
+use Rattle.hpb_house.specs.declared.keeper.Halt.{Halt}
+use Rattle.hpb_rings.specs.declared.client.Client.{Client}
+use Rattle.hpb_serve.specs.Ends.{IsEndOf}
 use Rattle.hpb_serve.specs.Sessions.{Follows}
 use Rattle.hpb_serve.proofs.Seats.{left_by, stays}
 use Rattle.hpb_serve.proofs.connection.serve_connection.Goals as goal
@@ -15,5 +18,6 @@ returns-in_default g c =
 
 pub returns : goal.returns
 returns g c =
+    let end = c.run_session-session.result.end in
     let ended = c.run_session-session.ensures in
-    record { own = ended.own; left = left_by ended.served.0.stop c.run_session-session.result.end ended.served.2.2 }
+    record { own = subst (λ (client : Client Halt). IsEndOf client end) (c.looking-desk.ensures.client ∙ c.new.ensures.client) ended.own; left = left_by ended.served.0.stop end ended.served.2.2 }

@@ -52,9 +52,9 @@ closed_reports g c =
     (items, ap (map (λ (report : Report). report.seat)) items ∙ seats ∙ numbered)
 
 -- the committed auction from which the reports differ
-pub returns-in-Err-clause-ill : goal.returns-in-Err-clause-ill
-returns-in-Err-clause-ill g c =
-    let is = closed_reports g (goal.at.returns-in-Err-clause-ill g c).After-close in
+pub returns-clause-ill : goal.returns-clause-ill
+returns-clause-ill g c =
+    let is = closed_reports g (goal.at.returns-clause-ill g c).After-close in
     record {
       seats = is.1;
       unsettled = rw (is.0, sym (ap (λ (v : Viewing). v.opened) c.named-house.ensures.house)) c.in-Err.ensures.unsettled;

@@ -1,4 +1,4 @@
-use Rattle.std.proofs.Common.{◌∙◌, sym, subst}
+use Rattle.std.proofs.Common.{◌∙◌, refl, sym, subst}
 use Rattle.hpb_board.specs.Publication.{Viewing}
 use Rattle.hpb_serve.specs.Sessions.{Follows, at_start}
 use Rattle.hpb_serve.specs.Ends.{EndsBy, posts_of}
@@ -8,10 +8,9 @@ use Rattle.hpb_serve.proofs.session.run_session.Goals as goal
 
 pub returns-clause-own : goal.returns-clause-own
 returns-clause-own g c =
-    let client = c.args.client in
-    let desk = c.looking-desk.result in
-    let served = c.serve-fault.ensures.served (at_start client) (starts client desk.client desk.stop (c.looking-desk.ensures.client ∙ c.new.ensures.client) (c.looking-desk.ensures.stop ∙ c.new.ensures.serves)) in
-    let goes = house_session client _ _ _ _ _ _ served.0 c.serve-fault.result served.1 in (
+    let client = c.args.desk.client in
+    let served = c.serve-fault.ensures.served (at_start client) (starts client client c.args.desk.stop refl c.requires) in
+    let goes = house_session client _ _ served.0 c.serve-fault.result served.1 in (
       c.finish.ensures.seat ∙ sym served.2.0 ∙ goes.seat,
       subst (λ (viewer : Viewing). Follows client.viewer viewer) (served.2.1 ∙ sym c.finish.ensures.viewer) goes.viewer,
       same_ring client.letters served.0.letters (posts_of c.finish.result) goes.letters
@@ -20,11 +19,10 @@ returns-clause-own g c =
 
 pub returns-clause-served : goal.returns-clause-served
 returns-clause-served g c =
-    let client = c.args.client in
-    let desk = c.looking-desk.result in
-    let served = c.serve-fault.ensures.served (at_start client) (starts client desk.client desk.stop (c.looking-desk.ensures.client ∙ c.new.ensures.client) (c.looking-desk.ensures.stop ∙ c.new.ensures.serves)) in (
+    let client = c.args.desk.client in
+    let served = c.serve-fault.ensures.served (at_start client) (starts client client c.args.desk.stop refl c.requires) in (
       served.0,
       served.1,
       (served.2.0 ∙ sym c.finish.ensures.seat, served.2.1 ∙ sym c.finish.ensures.viewer, subst (λ stop. EndsBy stop c.finish.result) (sym served.2.3) c.finish.ensures.ended),
-      tells_on client served.0 (house_session client _ _ _ _ _ _ served.0 c.serve-fault.result served.1),
+      tells_on client served.0 (house_session client _ _ served.0 c.serve-fault.result served.1),
     )

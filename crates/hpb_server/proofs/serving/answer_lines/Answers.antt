@@ -100,7 +100,7 @@ returns-clause-served g c = λ state at.
     let goes = sym c.upkeep.ensures.over ∙ over in (
       next.0,
       comes_ended came.1 t (g.W.Write.contents c.send.new.writer) c.in_ok-send.ensures.bytes c.send.ensures.empty (g.met.D.Desk.over_is c.upkeep.new.self next.0 rested ∙ over)
-          (streams (g.R.Read.remaining c.fill.new.reader) (g.W.Write.contents c.end_lines.new.writer)) (answered.taken goes) ended.0 ended.1 g.met.D.Desk.most_is_some.0 c.end_lines.result c.end_lines.ensures,
+          (streams (g.R.Read.remaining c.fill.new.reader) (g.W.Write.contents c.end_lines.new.writer)) (answered.taken goes) ended.0 ended.1 g.D.Desk.ways.most_is_some.0 c.end_lines.result c.end_lines.ensures,
       rested,
     )
 

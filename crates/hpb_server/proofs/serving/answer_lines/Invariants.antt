@@ -9,7 +9,7 @@ use Rattle.hpb_server.proofs.serving.answer_lines.Given as goal
 abbrev pub invariant-chunks : goal.invariant-chunks
 invariant-chunks g l =
     (g.D.Desk.rules l.desk ≡ g.D.Desk.rules l.initial.desk)
-    × Moves g.D.Desk.is_at l.initial.desk l.desk (λ state now. Comes g.D.Desk.rules_at g.D.Desk.over_at g.D.Desk.asks g.D.Desk.looks g.D.Desk.most g.D.Desk.takes_memory l.initial.input (streams (g.R.Read.remaining l.initial.reader) (g.W.Write.contents l.initial.writer)) state
+    × Moves g.D.Desk.is_at l.initial.desk l.desk (λ state now. Comes g.D.Desk.ways l.initial.input (streams (g.R.Read.remaining l.initial.reader) (g.W.Write.contents l.initial.writer)) state
     (streams (g.R.Read.remaining l.reader) (g.W.Write.contents l.writer)) now l.input l.line l.output)
     × ExplainsAt l.is_terminal (g.E.Write.contents l.initial.errors) (g.E.Write.contents l.errors)
 

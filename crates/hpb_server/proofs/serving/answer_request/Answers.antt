@@ -11,9 +11,9 @@ view_of-requires-clause-known g c = question_known (g.D.Desk.rules c.args.desk.n
 pub returns-in-Some-clause-answer : goal.returns-in-Some-clause-answer
 returns-in-Some-clause-answer g c = λ state at.
     let looked = c.look.follows.holds-at-none.0 state at in
-    (looked.0, (_, question_answered g.D.Desk.rules_at g.D.Desk.over_at g.D.Desk.asks g.D.Desk.looks c.args.request c.requires.question (seen c.look.result, looked.1, rw c.in-Some.is c.view_of.ensures), c.add.ensures), looked.2)
+    (looked.0, (_, question_answered g.D.Desk.ways c.args.request c.requires.question (seen c.look.result, looked.1, rw c.in-Some.is c.view_of.ensures), c.add.ensures), looked.2)
 
 pub returns-in-None-clause-answer : goal.returns-in-None-clause-answer
 returns-in-None-clause-answer g c = λ state at.
     let looked = c.look.follows.holds-at-none.0 state at in
-    (looked.0, (refusal_text refusals.Failed, question_answered g.D.Desk.rules_at g.D.Desk.over_at g.D.Desk.asks g.D.Desk.looks c.args.request c.requires.question (seen c.look.result, looked.1, rw c.in-None.is refl), c.refuse.ensures), looked.2)
+    (looked.0, (refusal_text refusals.Failed, question_answered g.D.Desk.ways c.args.request c.requires.question (seen c.look.result, looked.1, rw c.in-None.is refl), c.refuse.ensures), looked.2)

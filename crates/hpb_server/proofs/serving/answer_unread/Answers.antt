@@ -17,7 +17,7 @@ pub lines-init : goal.lines-init
 lines-init g c = (
   refl,
   refl,
-  omega (arith, ap length c.new-queue.ensures, g.met.D.Desk.most_is_some.0),
+  omega (arith, ap length c.new-queue.ensures, g.D.Desk.ways.most_is_some.0),
   λ over. c.new-queue.ensures,
   λ at_terminal. c.new-queue.ensures,
   λ state at. (state, λ partial no_end kept. queues_begin partial no_end kept c.new-queue.ensures, at),
@@ -55,10 +55,10 @@ returns-in_err-pass_request-clause-lines g c = λ state at.
     let heard = c.in-Some.ensures.value ∙ ap (λ (r : Rules). request_of r (take KEPT_BYTES (c.lines.line ++ take c.in-Some.next.size c.lines.input.unread))) c.definition.ensures in (
       stopped.0,
       λ partial no_end kept. err_case
-          (Proceeds g.D.Desk.rules_at g.D.Desk.over_at g.D.Desk.asks g.D.Desk.looks g.D.Desk.most g.D.Desk.takes_memory (partial ++ c.args.input.now.unread) state stopped.0
+          (Proceeds g.D.Desk.ways (partial ++ c.args.input.now.unread) state stopped.0
           (g.W.Write.contents c.args.writer.now) (g.W.Write.contents c.pass_request.new.writer) c.args.output.now c.next_request.new.line c.lines.input.unread c.pass_request.new.output)
           c.from_residual.result c.from_residual.ensures.1
-          (λ fault is. subst (λ (f : SessionFault). (f ≢ Reader) × Broken g.D.Desk.rules_at g.D.Desk.over_at g.D.Desk.asks g.D.Desk.looks g.D.Desk.most g.D.Desk.takes_memory (partial ++ c.args.input.now.unread) state stopped.0
+          (λ fault is. subst (λ (f : SessionFault). (f ≢ Reader) × Broken g.D.Desk.ways (partial ++ c.args.input.now.unread) state stopped.0
           (g.W.Write.contents c.args.writer.now) (g.W.Write.contents c.pass_request.new.writer) c.args.output.now f) (sym is)
           (stopped.1.passes.0, waits_broken (queues_line (came.1 partial no_end kept) part (g.D.Desk.rules c.lines.desk) are c.in-Some.next.request heard) c.in_err-pass_request.field-0.0 stopped.1)),
       stopped.2,

@@ -11,9 +11,9 @@ use Rattle.hpb_server.proofs.serving.answer_unread.Given as goal
 abbrev pub invariant-lines : goal.invariant-lines
 invariant-lines g l =
     (g.D.Desk.rules l.desk ≡ g.D.Desk.rules l.initial.desk) × (l.input.budget ≡ l.initial.input.budget)
-    × (length l.queue < g.D.Desk.most) × (g.D.Desk.over l.desk ≡ true → l.queue ≡ []) × (l.is_terminal ≡ true → l.queue ≡ [])
+    × (length l.queue < g.D.Desk.ways.most) × (g.D.Desk.over l.desk ≡ true → l.queue ≡ []) × (l.is_terminal ≡ true → l.queue ≡ [])
     × Moves g.D.Desk.is_at l.initial.desk l.desk (λ state now. (partial : List ℕ) → HasNoEnd partial → l.initial.line ≡ take KEPT_BYTES partial
-    → Queues g.D.Desk.rules_at g.D.Desk.over_at g.D.Desk.asks g.D.Desk.looks g.D.Desk.most g.D.Desk.takes_memory (partial ++ l.initial.input.unread) state now
+    → Queues g.D.Desk.ways (partial ++ l.initial.input.unread) state now
     (g.W.Write.contents l.initial.writer) (g.W.Write.contents l.writer) l.initial.output
     l.line l.queue l.input.unread l.output)
     × ExplainsAt l.is_terminal (g.E.Write.contents l.initial.errors) (g.E.Write.contents l.errors)

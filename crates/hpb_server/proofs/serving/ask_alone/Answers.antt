@@ -10,9 +10,9 @@ returns-in_err-pass_added-in-Ok-clause-passed g c = λ state at.
     let asked = c.in-Ok.ensures.asked state at in
     let fault = c.in_err-pass_added-in-Ok.field-0.0 in (
       asked.0,
-      passes_fewer g.D.Desk.rules_at g.D.Desk.over_at g.D.Desk.asks g.D.Desk.looks g.D.Desk.most g.D.Desk.takes_memory [] fault c.from_residual.result c.from_residual.ensures.1
-          (command_passed g.D.Desk.rules_at g.D.Desk.over_at g.D.Desk.asks g.D.Desk.looks g.D.Desk.most g.D.Desk.takes_memory state asked.0 c.args.command.now c.in-Ok.reply g.met.D.Desk.most_is_some.0
-          (g.met.D.Desk.over_is c.args.desk.now state at ∙ c.requires.goes_on) (g.met.D.Desk.rules_stay state asked.0 c.args.command.now c.in-Ok.reply asked.1) asked.1
+      passes_fewer g.D.Desk.ways [] fault c.from_residual.result c.from_residual.ensures.1
+          (command_passed g.D.Desk.ways state asked.0 c.args.command.now c.in-Ok.reply
+          (g.met.D.Desk.over_is c.args.desk.now state at ∙ c.requires.goes_on) (g.D.Desk.ways.rules_stay state asked.0 c.args.command.now c.in-Ok.reply asked.1) asked.1
           _ _ (Err fault) (c.in_err-pass_added-in-Ok.ensures c.args.output.now (reply_text c.in-Ok.reply) c.reply-added.ensures)),
       asked.2,
     )
@@ -21,8 +21,8 @@ pub returns-in_ok-pass_added-in-Ok-clause-passed : goal.returns-in_ok-pass_added
 returns-in_ok-pass_added-in-Ok-clause-passed g c = λ state at.
     let asked = c.in-Ok.ensures.asked state at in (
       asked.0,
-      command_passed g.D.Desk.rules_at g.D.Desk.over_at g.D.Desk.asks g.D.Desk.looks g.D.Desk.most g.D.Desk.takes_memory state asked.0 c.args.command.now c.in-Ok.reply g.met.D.Desk.most_is_some.0
-          (g.met.D.Desk.over_is c.args.desk.now state at ∙ c.requires.goes_on) (g.met.D.Desk.rules_stay state asked.0 c.args.command.now c.in-Ok.reply asked.1) asked.1
+      command_passed g.D.Desk.ways state asked.0 c.args.command.now c.in-Ok.reply
+          (g.met.D.Desk.over_is c.args.desk.now state at ∙ c.requires.goes_on) (g.D.Desk.ways.rules_stay state asked.0 c.args.command.now c.in-Ok.reply asked.1) asked.1
           _ _ (Ok tt) (c.in_ok-pass_added-in-Ok.ensures c.args.output.now (reply_text c.in-Ok.reply) c.reply-added.ensures),
       c.explain.ensures.kept asked.0 asked.2,
     )
@@ -35,6 +35,6 @@ returns-in_ok-pass_added-in-Ok-clause-told g c = λ at_terminal state at.
 pub returns-in-Err-clause-passed : goal.returns-in-Err-clause-passed
 returns-in-Err-clause-passed g c = λ state at. (
   state,
-  none_asked g.D.Desk.rules_at g.D.Desk.over_at g.D.Desk.asks g.D.Desk.looks g.D.Desk.most g.D.Desk.takes_memory c.break_off.result (c.break_off.ensures.passed g.D.Desk.most g.D.Desk.takes_memory [] (omega arith) (λ none. c.in-Err.ensures.refused)) (err_alone _ c.break_off.result c.break_off.ensures.failed),
+  none_asked g.D.Desk.ways c.break_off.result (c.break_off.ensures.passed g.D.Desk.ways.most g.D.Desk.ways.takes_memory [] (omega arith) (λ none. c.in-Err.ensures.refused)) (err_alone _ c.break_off.result c.break_off.ensures.failed),
   c.in-Err.ensures.kept state at,
 )

@@ -5,7 +5,7 @@ use Rattle.hpb_server.proofs.serving.ask_queue.Goals as goal
 pub returns-in_err-send_first-clause-passed : goal.returns-in_err-send_first-clause-passed
 returns-in_err-send_first-clause-passed g c = λ state at. (
   state,
-  not_asked g.D.Desk.rules_at g.D.Desk.over_at g.D.Desk.asks g.D.Desk.looks g.D.Desk.most g.D.Desk.takes_memory [] c.in_err-send_first.field-0.0 c.from_residual.result c.from_residual.ensures.1 c.in_err-send_first.ensures.passed,
+  not_asked g.D.Desk.ways [] c.in_err-send_first.field-0.0 c.from_residual.result c.from_residual.ensures.1 c.in_err-send_first.ensures.passed,
   at,
 )
 
@@ -13,6 +13,6 @@ pub returns-clause-passed : goal.returns-clause-passed
 returns-clause-passed g c = λ state at.
     let asked = c.ask_waiting.ensures.passed state at in (
       asked.0,
-      sent_first g.D.Desk.rules_at g.D.Desk.over_at g.D.Desk.asks g.D.Desk.looks g.D.Desk.most g.D.Desk.takes_memory _ c.ask_waiting.result c.in_ok-send_first.ensures.passed asked.1,
+      sent_first g.D.Desk.ways _ c.ask_waiting.result c.in_ok-send_first.ensures.passed asked.1,
       asked.2,
     )

@@ -10,15 +10,15 @@ returns-in-Ok-clause-passed g c = λ state at.
     let commands = c.args.queue.now in
     let replies = c.in-Ok.replies in
     let asked = c.in-Ok.ensures.asked state at in
-    let fewer = fewer_replies g.D.Desk.rules_at g.D.Desk.over_at g.D.Desk.asks g.D.Desk.looks state asked.0 commands replies asked.1 in (
+    let fewer = fewer_replies g.D.Desk.ways state asked.0 commands replies asked.1 in (
       asked.0,
       record {
         answered = asked_for commands;
         waiting = [];
         text = replies_text replies;
         parts = sym (append-nil (asked_for commands));
-        answers = queue_answered g.D.Desk.rules_at g.D.Desk.over_at g.D.Desk.asks g.D.Desk.looks g.met.D.Desk.rules_stay state asked.0 commands replies asked.1;
-        passes = passes_weaker g.D.Desk.takes_memory _ _ _ _ c.pass_replies.result (omega (arith, fewer, c.requires.most)) c.pass_replies.ensures;
+        answers = queue_answered g.D.Desk.ways state asked.0 commands replies asked.1;
+        passes = passes_weaker g.D.Desk.ways.takes_memory _ _ _ _ c.pass_replies.result (omega (arith, fewer, c.requires.most)) c.pass_replies.ensures;
         queued = ok_case c.pass_replies.result (sym (ap asked_for c.clear.ensures));
       },
       asked.2,
@@ -27,6 +27,6 @@ returns-in-Ok-clause-passed g c = λ state at.
 pub returns-in-Err-clause-passed : goal.returns-in-Err-clause-passed
 returns-in-Err-clause-passed g c = λ state at. (
   state,
-  none_asked g.D.Desk.rules_at g.D.Desk.over_at g.D.Desk.asks g.D.Desk.looks g.D.Desk.most g.D.Desk.takes_memory c.break_off.result (c.break_off.ensures.passed g.D.Desk.most g.D.Desk.takes_memory [] (omega arith) (λ none. c.in-Err.ensures.refused)) (ok_case c.break_off.result refl),
+  none_asked g.D.Desk.ways c.break_off.result (c.break_off.ensures.passed g.D.Desk.ways.most g.D.Desk.ways.takes_memory [] (omega arith) (λ none. c.in-Err.ensures.refused)) (ok_case c.break_off.result refl),
   c.in-Err.ensures.kept state at,
 )

@@ -11,7 +11,7 @@ pub returns-in_err-ask_queue-clause-passed : goal.returns-in_err-ask_queue-claus
 returns-in_err-ask_queue-clause-passed g c = λ state at.
     let asked = c.in_err-ask_queue.ensures.passed state at in (
       asked.0,
-      passes_fewer g.D.Desk.rules_at g.D.Desk.over_at g.D.Desk.asks g.D.Desk.looks g.D.Desk.most g.D.Desk.takes_memory (c.args.question ∷ []) c.in_err-ask_queue.field-0.0 c.from_residual.result c.from_residual.ensures.1 asked.1,
+      passes_fewer g.D.Desk.ways (c.args.question ∷ []) c.in_err-ask_queue.field-0.0 c.from_residual.result c.from_residual.ensures.1 asked.1,
       asked.2,
     )
 
@@ -20,7 +20,7 @@ returns-then-is_over-clause-passed g c = λ state at.
     let asked = c.in_ok-ask_queue.ensures.passed state at in
     let over = g.met.D.Desk.over_is c.ask_queue.new.desk asked.0 asked.2 ∙ (sym c.is_over.ensures ∙ c.if-is_over.true) in (
       asked.0,
-      passes_question g.D.Desk.rules_at g.D.Desk.over_at g.D.Desk.asks g.D.Desk.looks g.D.Desk.most g.D.Desk.takes_memory _ _ _ c.args.question [] (Ok tt) asked.1 c.in_ok-ask_queue.ensures.asked
+      passes_question g.D.Desk.ways _ _ _ c.args.question [] (Ok tt) asked.1 c.in_ok-ask_queue.ensures.asked
           (inl (over, refl, refl)) ([], Appends-nil _, append-nil c.ask_queue.new.output),
       asked.2,
     )
@@ -32,8 +32,8 @@ returns-clause-passed g c = λ state at.
     let goes = g.met.D.Desk.over_is c.ask_queue.new.desk asked.0 asked.2 ∙ (sym c.is_over.ensures ∙ c.if-is_over.false) in
     let stays = same_rules g.met.D.Desk.rules_are c.ask_queue.new.desk c.answer_question-added.new.desk asked.0 added.0 asked.2 added.2 c.answer_question-added.ensures.rules in (
       added.0,
-      passes_question g.D.Desk.rules_at g.D.Desk.over_at g.D.Desk.asks g.D.Desk.looks g.D.Desk.most g.D.Desk.takes_memory _ _ _ c.args.question (line_of added.1.0) c.pass_added.result asked.1 c.in_ok-ask_queue.ensures.asked
-          (request_answered g.D.Desk.rules_at g.D.Desk.over_at g.D.Desk.asks g.D.Desk.looks asked.0 added.0 c.args.question added.1.0 goes stays added.1.1)
-          (passes_weaker g.D.Desk.takes_memory _ _ _ _ c.pass_added.result (omega (arith, g.met.D.Desk.most_is_some.0)) (c.pass_added.ensures c.ask_queue.new.output added.1.0 added.1.2)),
+      passes_question g.D.Desk.ways _ _ _ c.args.question (line_of added.1.0) c.pass_added.result asked.1 c.in_ok-ask_queue.ensures.asked
+          (request_answered g.D.Desk.ways asked.0 added.0 c.args.question added.1.0 goes stays added.1.1)
+          (passes_weaker g.D.Desk.ways.takes_memory _ _ _ _ c.pass_added.result (omega (arith, g.D.Desk.ways.most_is_some.0)) (c.pass_added.ensures c.ask_queue.new.output added.1.0 added.1.2)),
       added.2,
     )

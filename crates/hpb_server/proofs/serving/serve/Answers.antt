@@ -4,4 +4,4 @@ use Rattle.hpb_server.proofs.serving.serve.Goals as goal
 pub returns-clause-told : goal.returns-clause-told
 returns-clause-told g c = λ state at told is.
     let served = c.serve_lines.ensures.served state at in
-    (served.0, served.2, session_goes g.D.Desk.rules_at g.D.Desk.over_at g.D.Desk.asks g.D.Desk.looks g.D.Desk.tells g.met.D.Desk.replies_go_on g.met.D.Desk.shows_go_on _ _ _ _ _ _ state served.0 told c.serve_lines.result served.1 is)
+    (served.0, served.2, session_goes g.D.Desk.ways _ _ _ _ state served.0 told c.serve_lines.result served.1 is)

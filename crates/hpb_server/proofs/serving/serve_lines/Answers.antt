@@ -11,9 +11,9 @@ nothing = record { unread = []; budget = MOST_READ_BYTES }
 pub returns-in_err-input-clause-served : goal.returns-in_err-input-clause-served
 unfolding nothing
 returns-in_err-input-clause-served g c = λ state at.
-    (state, never_served g.D.Desk.rules_at g.D.Desk.over_at g.D.Desk.asks g.D.Desk.looks g.D.Desk.most g.D.Desk.takes_memory nothing _ _ c.from_residual.result c.from_residual.ensures.1, at)
+    (state, never_served g.D.Desk.ways nothing _ _ c.from_residual.result c.from_residual.ensures.1, at)
 
 pub returns-in_err-output-clause-served : goal.returns-in_err-output-clause-served
 unfolding nothing
 returns-in_err-output-clause-served g c = λ state at.
-    (state, never_served g.D.Desk.rules_at g.D.Desk.over_at g.D.Desk.asks g.D.Desk.looks g.D.Desk.most g.D.Desk.takes_memory nothing _ _ c.from_residual-in_err-output.result c.from_residual-in_err-output.ensures.1, at)
+    (state, never_served g.D.Desk.ways nothing _ _ c.from_residual-in_err-output.result c.from_residual-in_err-output.ensures.1, at)

@@ -7,11 +7,10 @@ pub returns-clause-called : goal.returns-clause-called
 returns-clause-called g c =
     let s = c.args.self.now.progress in
     let laws = c.laws_below.ensures in
-    rw c.end-end.ensures (synced laws (refl, refl) c.in_ok-sync.ensures (g.met.D.Disk.seen_may_stay _) c.requires.works (λ k. k) (λ k. refl)
+    rw c.end-end.ensures (synced laws refl c.requires.works c.in_ok-sync.ensures (λ k. k) (λ k. refl)
     (λ k fits. cleaned_fits laws s k fits c.requires.done)
     (λ k image fits. cleaned_synced laws s k fits c.requires.done image)
     (λ k image fits. cleaned_reads laws s k fits c.requires.done image))
 
 pub returns-in_err-sync-clause-called : goal.returns-in_err-sync-clause-called
-returns-in_err-sync-clause-called g c = let s = c.args.self.now.progress in
-    ended c.from_residual.result c.from_residual.ensures.1 (unsynced c.laws_below.ensures (refl, refl) c.in_err-sync.ensures)
+returns-in_err-sync-clause-called g c = ended c.from_residual.result c.from_residual.ensures.1 (unsynced c.laws_below.ensures refl c.requires.works c.in_err-sync.ensures)

@@ -5,6 +5,7 @@ use Rattle.hpb_serve.specs.Sessions.{RepliesAt, over_at}
 use Rattle.hpb_serve.proofs.InFlight.{asks_stopped}
 use Rattle.hpb_serve.proofs.Steps.{none_of}
 use Rattle.hpb_serve.proofs.desk.HouseDesk.reply.Goals as goal
+use Rattle.hpb_serve.specs.Telling.{house_ways}
 
 -- a desk that has stopped stays as it is
 pub returns-in-Some-clause-replied : goal.returns-in-Some-clause-replied
@@ -13,7 +14,7 @@ returns-in-Some-clause-replied g c state stands =
     let why = c.in-Some.stop in
     let refused : c.refuse_later.result ≡ refused_after why (length commands) = rw c.len.ensures.value at c.refuse_later.ensures in (
       state,
-      subst (λ given. AsksAll RepliesAt over_at state commands given state) (sym refused) (asks_stopped state commands why (stands.3 ∙ c.in-Some.is)),
+      subst (λ given. AsksAll house_ways state commands given state) (sym refused) (asks_stopped state commands why (stands.3 ∙ c.in-Some.is)),
       stands,
     )
 

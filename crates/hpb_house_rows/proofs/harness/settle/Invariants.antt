@@ -1,5 +1,0 @@
-use Rattle.hpb_house.specs.Clients.{SameClient}
-use Rattle.hpb_house_rows.proofs.harness.settle.Given as goal
-
-abbrev pub invariant-loop : goal.invariant-loop
-invariant-loop g l = (goal.iterator-loop g).can_next l.iterator' × (goal.iterator-loop g).is_finite l.iterator' × SameClient l.fn.client l.client

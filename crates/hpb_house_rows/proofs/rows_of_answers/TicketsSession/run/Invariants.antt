@@ -1,5 +1,0 @@
-use Rattle.hpb_house.specs.Clients.{SameClient}
-use Rattle.hpb_house_rows.proofs.rows_of_answers.TicketsSession.run.Given as goal
-
-abbrev pub invariant-loop-place : goal.invariant-loop-place
-invariant-loop-place g l = SameClient l.fn.client l.client

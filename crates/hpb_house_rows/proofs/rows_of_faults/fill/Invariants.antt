@@ -1,5 +1,0 @@
-use Rattle.hpb_house.specs.Clients.{SameClient}
-use Rattle.hpb_house_rows.proofs.rows_of_faults.fill.Given as goal
-
-abbrev pub invariant-loop-place : goal.invariant-loop-place
-invariant-loop-place l = SameClient l.fn.client l.client

@@ -1,6 +1,0 @@
-use denote.Param.Send.{sendable}
-use Rattle.hpb_disk.proofs.Crossing.{Memory-send}
-use Rattle.hpb_session_rows.proofs.one_session.run_on_new_device.Goals as goal
-
-pub run_on_house-requires-send-D : goal.run_on_house-requires-send-D
-run_on_house-requires-send-D g c κs within = search (sendable, Memory-send) depth 20

@@ -1,0 +1,5 @@
+use Rattle.hpb_test_house.proofs.harness.run_house.Given as goal
+
+-- the house that was just started
+abbrev pub ghosts-run_started : goal.ghosts-run_started
+ghosts-run_started g a = record { eye = a.started.eye; device = g.D.Disk.device a.started.keeper.opened; clients = a.started.clients.items }

@@ -1,0 +1,5 @@
+use Rattle.hpb_house.specs.Clients.{SameClient}
+use Rattle.hpb_test_house.proofs.rows_of_answers.TicketsSession.run.Given as goal
+
+abbrev pub invariant-loop-place : goal.invariant-loop-place
+invariant-loop-place g l = SameClient l.fn.client l.client

@@ -1,0 +1,6 @@
+use denote.Param.Send.{sendable}
+use Rattle.hpb_disk.proofs.Crossing.{Memory-send}
+use Rattle.hpb_test_sessions.proofs.one_session.run_on_new_device.Goals as goal
+
+pub run_on_house-requires-send-D : goal.run_on_house-requires-send-D
+run_on_house-requires-send-D g c κs within = search (sendable, Memory-send) depth 20

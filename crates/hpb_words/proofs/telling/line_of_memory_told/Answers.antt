@@ -1,7 +1,0 @@
-use Rattle.std.proofs.Common.{refl}
-use Rattle.std.specs.Fmt.{digits}
-use Rattle.hpb_words.proofs.telling.line_of_memory_told.Goals as goal
-
-pub returns : goal.returns
-unfolding digits
-returns c = refl

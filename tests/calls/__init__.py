@@ -1,0 +1,1 @@
+"""Each call that a program makes of a file, and the images that a crash may leave between them."""

@@ -1,0 +1,1 @@
+"""Each request for memory that a program makes is refused in turn."""
