@@ -8,6 +8,7 @@ import stat
 import struct
 from collections.abc import Callable
 from dataclasses import replace
+from functools import partial
 from pathlib import Path
 
 import pytest
@@ -26,6 +27,8 @@ IS_THERE = "{0}.new is there, by which name {0} is made first: if no other hpb m
 IS_FOREIGN = "{0}.new is another user's, and {0} is made by that name first: name a file in a folder that only you may write"
 IS_WRITABLE = "{0}.new may be written by others, and {0} is made by that name first: if no other hpb makes it now, give that one another name"
 FILE_IS_FOREIGN = "{0} is another user's, who could change the auction: name a file that isn't there, in a folder that only you may write"
+LINK_IS_FOREIGN = "{0} is another user's link, which may lead to any file of yours: name a file that isn't there, in a folder that only you may write"
+LINK_IS_LOOSE = "{0} is a link that leads to no file: remove it, or name a file that isn't there"
 # An access list by which the user nobody may read and write all files made in a folder: tags, permissions, and a user's number.
 ACL_VERSION = 2
 ACL_ENTRY = struct.Struct("<HHI")
@@ -203,6 +206,37 @@ def test_another_users_file_of_that_name_becomes_no_auction(program: Program, mo
     ran = program.format(file, layout)
     assert refused(ran, file, FILE_IS_FOREIGN), ran
     assert state_of(file) == before and not (mounted / "F.new").exists()
+
+
+def test_another_users_link_of_that_name_overwrites_nothing(program: Program, mounted: Path, layout: Layout, nobody: User) -> None:
+    """It led to a file of the right length of the user himself, and that was formatted."""
+    file, target = mounted / "F", mounted / "target"
+    write_as(target, bytes(layout.pages(layout.least_journal) * PAGE), OWNERS_ALONE)
+    nobody.call(os.symlink, target, file)
+    before = state_of(file), state_of(target)
+    ran = program.format(file, layout)
+    assert refused(ran, file, LINK_IS_FOREIGN), ran
+    assert (state_of(file), state_of(target)) == before and not (mounted / "F.new").exists()
+
+
+@pytest.mark.parametrize("as_nobody", [False, True], ids=["own", "another's"])
+def test_a_link_that_leads_to_no_file_is_refused(program: Program, mounted: Path, nobody: User, as_nobody: bool) -> None:
+    file, target = mounted / "F", mounted / "target"
+    link = partial(os.symlink, target, file)
+    _ = nobody.call(link) if as_nobody else link()
+    before = state_of(file)
+    ran = program.format(file)
+    assert refused(ran, file, LINK_IS_LOOSE), ran
+    assert state_of(file) == before
+    assert not target.exists() and not (mounted / "F.new").exists()
+
+
+def test_an_own_link_leads_to_the_auction(program: Program, room: Path, layout: Layout) -> None:
+    file, target = room / "F", room / "target"
+    write_as(target, bytes(layout.pages(layout.least_journal) * PAGE), OWNERS_ALONE)
+    file.symlink_to(target)
+    assert program.format(file, layout).status == 0
+    assert file.is_symlink() and program.count(target) == 0
 
 
 def test_an_own_file_of_the_right_length_is_formatted(program: Program, room: Path, layout: Layout) -> None:

@@ -38,6 +38,12 @@ pub enum FileFault {
     /// An auction was to be made in another user's file.
     #[error("the file is another user's")]
     Foreign,
+    /// An auction was to be made in the file that another user's link leads to.
+    #[error("the file's name is another user's link")]
+    ForeignLink,
+    /// An auction was to be made under the name of a link that leads to no file.
+    #[error("the file's name is a link that leads to no file")]
+    DanglingLink,
     /// It has more bytes than this process may write: the system ends a process that writes beyond the limit.
     #[error("the file has {len} bytes, and no more than {limit} may be written")]
     Limit { len: u64, limit: u64 },

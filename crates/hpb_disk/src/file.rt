@@ -6,7 +6,7 @@ ghost use Rattle.hpb_disk.specs.Calls.{calls_of, seen_of};
 
 use crate::memory::overwrite;
 use crate::opening::{
-    Share, are_same, beside, check_descriptor, check_limit, check_owner, fill_and_name,
+    Share, are_same, beside, check_descriptor, check_free, check_limit, check_owner, fill_and_name,
     forget_beside, lock, look_at, open_beside, open_folder, settle, sync_names,
 };
 use crate::stamp::FileStamp;
@@ -162,8 +162,8 @@ impl FileDisk {
         Ok(FileDisk::over(file, bytes))
     }
 
-    // Opens an existing file, unless it is another user's. If it still has the name under which it was made, that name
-    // is removed.
+    // Opens an existing file, unless it is another user's, or another user's link leads to it. If it still has the name
+    // under which it was made, that name is removed.
     fn open_own<R: Files<File = File>>(
         rt: &R,
         alloc: Global,
@@ -174,13 +174,16 @@ impl FileDisk {
         ensures apart { IfOk result file_is_apart }
     {
         let disk = FileDisk::open(rt, alloc, path)?;
-        check_owner(&disk.file)?;
+        check_owner(rt, path, &disk.file)?;
         forget_beside(rt, beside(alloc, path)?.as_str(), &disk.file)?;
         Ok(disk)
     }
 
-    /// Opens an existing file, or makes one of `len` zero bytes if there is none. A file of another user, who could
-    /// write it at any time, is refused (`Foreign`).
+    /// Opens an existing file, or makes one of `len` zero bytes if there is none. These are refused:
+    ///
+    /// - a file of another user, who could write it at any time (`Foreign`);
+    /// - a file to which another user's link leads (`ForeignLink`);
+    /// - the name of a link that leads to no file (`DanglingLink`).
     pub fn open_or_make<R: Files<File = File>>(
         rt: &R,
         alloc: Global,
@@ -195,6 +198,7 @@ impl FileDisk {
             Err(FileFault::System(error)) if error.kind() == ErrorKind::NotFound => {}
             opened => return opened,
         }
+        check_free(rt, path)?;
         match FileDisk::make(rt, alloc, path, len) {
             // Another process made it meanwhile.
             Err(FileFault::System(error)) if error.kind() == ErrorKind::AlreadyExists => {

@@ -192,12 +192,24 @@ fn is_own(file: &Metadata) -> bool {
     file.uid() == libc::geteuid()
 }
 
-/// Refuses a file of another user, who could read and write it at any time.
-pub(crate) fn check_owner(file: &File) -> Result<(), FileFault> {
+/// Refuses a file of another user, who could read and write it at any time. Also refuses a path that is another user's
+/// link: it may lead to any file of this user, and later to another one.
+pub(crate) fn check_owner<R: Files>(rt: &R, path: &str, file: &File) -> Result<(), FileFault> {
     if !is_own(&file.metadata()?) {
         return Err(FileFault::Foreign);
     }
+    if !is_own(&fs::symlink_metadata(rt, path)?) {
+        return Err(FileFault::ForeignLink);
+    }
     Ok(())
+}
+
+/// Refuses a path that leads to no file if it is a link: no file can get its name.
+pub(crate) fn check_free<R: Files>(rt: &R, path: &str) -> Result<(), FileFault> {
+    match fs::symlink_metadata(rt, path) {
+        Ok(found) if found.is_symlink() => Err(FileFault::DanglingLink),
+        _ => Ok(()),
+    }
 }
 
 /// Refuses the file at the name that a file has while it is made, unless a killed process of this user left it. It

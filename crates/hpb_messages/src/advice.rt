@@ -145,6 +145,14 @@ fn advise_of_file<W: fmt::Write>(
             f,
             "{file} is another user's, who could change the auction: name a file that isn't there, in a folder that only you may write"
         ),
+        FileFault::ForeignLink => write!(
+            f,
+            "{file} is another user's link, which may lead to any file of yours: name a file that isn't there, in a folder that only you may write"
+        ),
+        FileFault::DanglingLink => write!(
+            f,
+            "{file} is a link that leads to no file: remove it, or name a file that isn't there"
+        ),
         FileFault::Limit { len, limit } => write!(
             f,
             "{file} wants {len} bytes, and this process may write no more than {limit} to a file: let it write more (ulimit -f)"

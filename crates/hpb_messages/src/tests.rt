@@ -93,6 +93,14 @@ fn faults_of_files_are_told(rt: HostRuntime) -> Result<(), Fail> {
             "a.hpb is another user's, who could change the auction: name a file that isn't there, in a folder that only you may write",
         ),
         (
+            JobFault::File(FileFault::ForeignLink),
+            "a.hpb is another user's link, which may lead to any file of yours: name a file that isn't there, in a folder that only you may write",
+        ),
+        (
+            JobFault::File(FileFault::DanglingLink),
+            "a.hpb is a link that leads to no file: remove it, or name a file that isn't there",
+        ),
+        (
             JobFault::File(denied),
             "a.hpb could not be opened: Permission denied (os error 13): see that you may use it, and read its folder",
         ),

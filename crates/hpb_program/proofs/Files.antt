@@ -23,6 +23,8 @@ of_each_file Is memory file fault made is = subst Is (sym is) (go fault)
     go files.BesideForeign = file files.BesideForeign
     go files.BesideWritable = file files.BesideWritable
     go files.Foreign = file files.Foreign
+    go files.ForeignLink = file files.ForeignLink
+    go files.DanglingLink = file files.DanglingLink
     go (files.Limit len limit) = file (files.Limit len limit)
     go (files.System e) = file (files.System e)
 

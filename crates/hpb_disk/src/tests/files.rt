@@ -19,6 +19,8 @@ fn word(opened: Result<FileDisk, FileFault>) -> &'static str {
         Err(FileFault::BesideForeign) => "another's beside",
         Err(FileFault::BesideWritable) => "writable beside",
         Err(FileFault::Foreign) => "another's",
+        Err(FileFault::ForeignLink) => "another's link",
+        Err(FileFault::DanglingLink) => "dangling link",
         Err(FileFault::Stream) => "stream",
         Err(FileFault::TooLong) => "too long",
         Err(FileFault::System(_)) => "refused",
