@@ -2,6 +2,7 @@
 from __future__ import annotations
 
 import asyncio
+import sys
 import threading
 import time
 from collections.abc import Callable
@@ -9,7 +10,9 @@ from collections.abc import Callable
 import pytest
 
 from hpb import threads
-from hpb.threads import Lines, Places, Signal, Thread, Worker, in_thread, keep
+from hpb.front.log import Log, Stream
+from hpb.front.words import Writer
+from hpb.threads import Lines, Places, Signal, Thread, Worker, in_thread, keeper
 
 SECONDS = 10
 
@@ -113,8 +116,28 @@ def test_work_goes_on_whatever_fails() -> None:
             raise MemoryError
         time.sleep(0.001)
 
-    Thread(lambda: keep(work, 0.001)).start()
+    keeper(work, 0.001).start()
     assert eventually(lambda: len(done) > 20)
+
+
+@pytest.mark.parametrize("kind", [Writer, lambda stream: Log(Stream(stream))], ids=["writer", "log"])
+@pytest.mark.filterwarnings("ignore::pytest.PytestUnraisableExceptionWarning")
+def test_a_thread_that_writes_asks_for_nothing_before_it_can_go_on(kind: Callable[[int], Writer | Log], monkeypatch: pytest.MonkeyPatch) -> None:
+    """Memory for the call of its own work is refused once the thread has begun: a bound method is such a request."""
+    main = threading.get_ident()
+
+    def refused(one: object, name: str) -> object:
+        if name.startswith("write_") and threading.get_ident() != main and sys._getframe(1).f_code.co_name == "<lambda>":
+            raise MemoryError
+        return object.__getattribute__(one, name)
+
+    for one in (Writer, Log):
+        monkeypatch.setattr(one, "__getattribute__", refused, raising=False)
+    made = kind(1)
+    thread = made.thread if isinstance(made, Writer) else made.writer
+    thread.start()
+    time.sleep(0.1)
+    assert not thread.has_ended
 
 
 def eventually(holds: Callable[[], bool]) -> bool:

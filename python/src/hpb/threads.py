@@ -191,8 +191,14 @@ async def in_thread(call: Callable[[], Result]) -> Result:
     return await job.wait(Thread(lambda: job.do(lambda _: call())).start())
 
 
+def keeper(work: Callable[[], None], pause: float) -> Thread:
+    """A thread that does the work again and again. Whatever fails, it goes on after a pause, of so many seconds. The thread asks for no
+    memory before it can go on after a refusal: the work is a call that is made already."""
+    return Thread(lambda: keep(work, pause))
+
+
 def keep(work: Callable[[], None], pause: float) -> None:
-    """Does the work again and again. Whatever fails, it goes on after a pause."""
+    """Does the work again and again, in the thread of a `keeper`."""
     has_failed = False
     while True:
         try:

@@ -15,7 +15,7 @@ from dataclasses import dataclass, field
 from typing import Protocol
 
 from hpb.own_files import give_name, is_at, open_own
-from hpb.threads import Lines, Thread, keep
+from hpb.threads import Lines, keeper
 
 Field = str | int | float | bool | None | list[str]
 
@@ -169,7 +169,7 @@ class Log:
         self.lost: dict[str, int] = {}
         self.has_begun = False
         self.counted = self.warned = -WARN_SECONDS
-        self.writer = Thread(lambda: keep(self.write_or_fail, PAUSE))
+        self.writer = keeper(self.write_or_fail, PAUSE)
 
     def start(self) -> "Log":
         """Starts the thread. A RuntimeError says that the system has none."""

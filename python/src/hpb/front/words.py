@@ -5,7 +5,7 @@ import time
 from collections.abc import Callable
 
 from hpb.streams import STANDARD_ERROR, STANDARD_OUTPUT, write_all
-from hpb.threads import Lines, Thread, keep
+from hpb.threads import Lines, keeper
 
 # So many lines wait for a reader, who may have stopped the terminal by Ctrl-S. Lines beyond that are only counted.
 MOST_UNREAD = 1_000
@@ -22,7 +22,7 @@ class Writer:
 
     def __init__(self, stream: int, lose: Callable[[str, str], None] = lambda line, why: None) -> None:
         self.stream, self.left_out, self.lose, self.has_failed = stream, 0, lose, False
-        self.lines, self.tries, self.thread = Lines(MOST_UNREAD), 0, Thread(lambda: keep(self.write_next, PAUSE))
+        self.lines, self.tries, self.thread = Lines(MOST_UNREAD), 0, keeper(self.write_next, PAUSE)
 
     def add(self, text: str) -> None:
         if not self.lines.add(f"{text}\n".encode(errors="backslashreplace")):
