@@ -1,7 +1,8 @@
 """Threads, and what they share, that no lack of memory makes hang.
 
 Python's own `threading.Thread`, `Condition`, `Event` and `queue.Queue` ask for memory while they hold a lock, or while another thread waits
-for them. If that is refused once, the lock stays held, or the wait has no end. A plain lock needs none.
+for them. If that is refused once, the lock stays held, or the wait has no end. A plain lock needs none, if it is freed by `release` in a
+`finally`: the end of `with lock` asks for memory, too.
 """
 import _thread
 import asyncio
@@ -81,14 +82,20 @@ class Places:
 
     def take(self) -> bool:
         """Takes a place. False if none is left."""
-        with self._lock:
+        self._lock.acquire()
+        try:
             is_left = self._left > 0
             self._left -= is_left
+        finally:
+            self._lock.release()
         return is_left
 
     def give_back(self) -> None:
-        with self._lock:
+        self._lock.acquire()
+        try:
             self._left += 1
+        finally:
+            self._lock.release()
 
 
 class Lines:

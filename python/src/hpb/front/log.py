@@ -179,16 +179,22 @@ class Log:
 
     def write(self, kind: str, **fields: Field) -> None:
         """Adds a line, and never waits. If there is no room for it, it is only counted."""
-        with self.lock:
+        self.lock.acquire()
+        try:
             bucket = self.buckets.get(kind)
             if bucket and not bucket.may(time.monotonic()):
                 return
+        finally:
+            self.lock.release()
         if not self.lines.add(line_of(kind, fields)):
             self.lose(kind)
 
     def lose(self, kind: str) -> None:
-        with self.lock:
+        self.lock.acquire()
+        try:
             self.lost[kind] = self.lost.get(kind, 0) + 1
+        finally:
+            self.lock.release()
 
     def write_or_fail(self) -> None:
         try:
@@ -226,13 +232,16 @@ class Log:
             self.sink.write(line_of("left_out", {"of": kind, "count": number}))
 
     def take_counts(self) -> dict[str, int]:
-        with self.lock:
+        self.lock.acquire()
+        try:
             counts, self.lost = self.lost, {}
             for kind, bucket in self.buckets.items():
                 if bucket.left_out:
                     counts[kind] = counts.get(kind, 0) + bucket.left_out
                     bucket.left_out = 0
             return counts
+        finally:
+            self.lock.release()
 
     def end(self, seconds: float) -> None:
         """Waits until all is written, at most so many seconds."""

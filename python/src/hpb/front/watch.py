@@ -58,12 +58,15 @@ class Watch:
 
     def attach(self, loop: asyncio.AbstractEventLoop, stop: Callable[[], None], reload: Callable[[], None]) -> None:
         """From now on signals call `stop` and `reload` in the loop."""
-        with self.lock:
+        self.lock.acquire()
+        try:
             self.loop, self.stop, self.reload = loop, stop, reload
             if self.is_told:
                 stop()
             elif self.is_reload_told:
                 reload()
+        finally:
+            self.lock.release()
 
     def take_signals(self) -> None:
         """Takes one signal after the other. Whatever fails, the thread goes on, and has the signal that it took: without it, only SIGKILL
@@ -91,10 +94,13 @@ class Watch:
             pass
 
     def call(self, number: int) -> None:
-        with self.lock:
+        self.lock.acquire()
+        try:
             self.is_reload_told = self.is_reload_told or number not in STOPS
             if self.loop:
                 self.loop.call_soon_threadsafe(self.stop if number in STOPS else self.reload, context=self.context)
+        finally:
+            self.lock.release()
 
     def keep_limit(self) -> None:
         """Ends the process some time after it is armed. Whatever fails is tried again."""

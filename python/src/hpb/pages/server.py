@@ -227,14 +227,21 @@ class Server(socketserver.ThreadingTCPServer):
             self.shutdown_request(request)
             return
         try:
-            with self._lock:
-                self._inside.add(request)
-                self._silent[request] = address[0]
+            self._let_in(request, address[0])
             Thread(lambda: self.process_request_thread(request, address)).start()
         except BaseException:
             # No thread runs for it that would give its place back.
             self._give_back(request)
             raise
+
+    def _let_in(self, request: socket.socket, address: str) -> None:
+        """Notes a connection that has asked for nothing yet."""
+        self._lock.acquire()
+        try:
+            self._inside.add(request)
+            self._silent[request] = address
+        finally:
+            self._lock.release()
 
     def _takes_room(self) -> bool:
         """Waits a moment for a place."""
@@ -252,26 +259,35 @@ class Server(socketserver.ThreadingTCPServer):
 
     def _give_back(self, request: socket.socket) -> None:
         """Gives a connection's place back, once."""
-        with self._lock:
+        self._lock.acquire()
+        try:
             self._silent.pop(request, None)
             if request not in self._inside:
                 return
             self._inside.discard(request)
+        finally:
+            self._lock.release()
         self._room.give_back()
 
     def has_asked(self, request: socket.socket) -> None:
         """A connection has asked for something, so it won't be ended to make room."""
-        with self._lock:
+        self._lock.acquire()
+        try:
             self._silent.pop(request, None)
+        finally:
+            self._lock.release()
 
     def _end_silent(self) -> bool:
         """Ends the oldest idle connection of the address that has the most of them. Returns whether there was one."""
-        with self._lock:
+        self._lock.acquire()
+        try:
             if not self._silent:
                 return False
             crowd = collections.Counter(self._silent.values()).most_common(1)[0][0]
             first = next(request for request, address in self._silent.items() if address == crowd)
             del self._silent[first]
+        finally:
+            self._lock.release()
         with contextlib.suppress(OSError):
             # Its thread then reads the end. A connection over TLS is ended below TLS.
             socket.socket.shutdown(first, socket.SHUT_RDWR)

@@ -36,31 +36,53 @@ class Wall:
     def hang(self, view: View) -> None:
         """Replaces the current view by a newer one."""
         own = view.only(self._bidders, self.name or "")
-        with self._lock:
+        self._lock.acquire()
+        try:
             self._said = announcement(self._view, own)
             self._view, self._model, self._number = own, None, self._number + 1
             waiting, self._waiting = self._waiting, []
+        finally:
+            self._lock.release()
         for one in waiting:
             one.release()
 
     def now(self) -> tuple[View, Model, int]:
         """The current view, its model and its number."""
-        with self._lock:
+        self._lock.acquire()
+        try:
             return self._view, self._made(), self._number
+        finally:
+            self._lock.release()
 
     def next(self, number: int, seconds: float) -> tuple[Model, int, str]:
         """The model after number `number`, its own number, and its announcement. If none comes within `seconds`, it is the current one."""
         hung = held_lock()
-        with self._lock:
+        self._wait(hung, number)
+        if not hung.acquire(timeout=seconds):
+            self._forget(hung)
+        self._lock.acquire()
+        try:
+            return self._made(), self._number, self._said
+        finally:
+            self._lock.release()
+
+    def _wait(self, hung: LockType, number: int) -> None:
+        """Frees the lock once the view after this number hangs."""
+        self._lock.acquire()
+        try:
             if self._number == number:
                 self._waiting.append(hung)
             else:
                 hung.release()
-        if not hung.acquire(timeout=seconds):
-            with self._lock:
-                self._waiting = [one for one in self._waiting if one is not hung]
-        with self._lock:
-            return self._made(), self._number, self._said
+        finally:
+            self._lock.release()
+
+    def _forget(self, hung: LockType) -> None:
+        self._lock.acquire()
+        try:
+            self._waiting = [one for one in self._waiting if one is not hung]
+        finally:
+            self._lock.release()
 
     def _made(self) -> Model:
         if self._model is None:
