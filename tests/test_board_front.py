@@ -6,6 +6,8 @@ import os
 import re
 import signal
 import socket
+import subprocess
+import sys
 import time
 from collections.abc import Iterator, Mapping
 from pathlib import Path
@@ -15,8 +17,13 @@ from boards import BIDDERS, FIELDS, RULES, Site, Tools, Viewer, look_at_board, s
 from faults import PAGE
 from fronts import NAMES, Caller, Front, make_certificate, token_of
 from harness.auctions import FIRST_ROUND
+from harness.conditions import NORMAL
+from harness.fronts import with_package
 from harness.programs import Program
 from harness.serving import ADDRESS, free_port, wait_until
+
+from hpb.front.given import in_memory, written
+from hpb.front.terms import read_terms
 
 SECONDS = 60
 SEEN: Mapping[str, list[str]] = {"desk": BIDDERS, "ann": ["x"], "bob": ["y", "z"], "carl": ["w"], "public": []}
@@ -208,3 +215,32 @@ def test_a_watch_of_a_front_goes_on_after_a_kill_of_it(over_tls: Front, tools: T
     written, said, status = watch.ended()
     assert (OVER in written, said, status) == (True, "", 0)
     assert "It connects again by itself.\n" in written
+
+
+def test_a_page_without_its_front_ends_though_nobody_reads_its_words(front: Front) -> None:
+    """Else it would show its last state for ever, and its front would wait for its end."""
+    reader, writer = os.pipe()
+    os.set_blocking(writer, False)
+    with pytest.raises(BlockingIOError):
+        while True:
+            os.write(writer, bytes(4096))
+    os.set_blocking(writer, True)
+    mine, its = socket.socketpair()
+    given = in_memory(written(*read_terms(str(front.config))))
+    with its, socket.create_server((ADDRESS, 0)) as listener:
+        numbers = [listener.fileno(), given]
+        page = subprocess.Popen(
+            [sys.executable, "-P", "-m", PAGE, str(front.config), *map(str, numbers)],
+            stdin=its,
+            stdout=subprocess.DEVNULL,
+            stderr=writer,
+            pass_fds=numbers,
+            env=with_package(NORMAL.variables()),
+        )
+    mine.close()
+    try:
+        assert page.wait(SECONDS / 3) == 1
+    finally:
+        page.kill()
+        for descriptor in (reader, writer, given):
+            os.close(descriptor)

@@ -17,6 +17,7 @@ import sys
 from hpb.front.faults import Wrong
 from hpb.front.given import Given, read, read_all
 from hpb.front.log import Log, Stream
+from hpb.front.words import cry
 from hpb.pages.following import Follower
 from hpb.pages.server import Server
 from hpb.pages.view import State, View
@@ -56,9 +57,9 @@ def followed(follower: Follower) -> None:
 
 
 def end(text: object) -> None:
-    """Writes the reason, and ends the process."""
+    """Writes the reason, unless nobody reads standard error, and ends the process."""
     try:
-        print(f"board: {text}", file=sys.stderr, flush=True)
+        cry(f"board: {text}\n".encode(errors="backslashreplace"))
     finally:
         os._exit(1)
 
