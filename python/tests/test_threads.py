@@ -2,6 +2,7 @@
 from __future__ import annotations
 
 import asyncio
+import os
 import sys
 import threading
 import time
@@ -27,6 +28,25 @@ def test_a_thread_that_doesnt_begin_is_missed(monkeypatch: pytest.MonkeyPatch) -
     monkeypatch.setattr("_thread.start_new_thread", lambda run, arguments: 1)
     with pytest.raises(RuntimeError, match="doesn't begin"):
         Thread(lambda: None).start()
+
+
+def test_a_loop_goes_on_though_the_thread_of_a_call_doesnt_begin(monkeypatch: pytest.MonkeyPatch) -> None:
+    """As if memory were refused to the thread's first call."""
+    monkeypatch.setattr(threads, "BEGIN_SECONDS", 0.5)
+    monkeypatch.setattr(threads, "LOOK_SECONDS", 0.1)
+    monkeypatch.setattr("_thread.start_new_thread", lambda run, arguments: 1)
+
+    async def works() -> int:
+        call = asyncio.create_task(in_thread(lambda: None))
+        turns = 0
+        while not call.done():
+            await asyncio.sleep(0.01)
+            turns += 1
+        with pytest.raises(MemoryError, match="doesn't begin"):
+            call.result()
+        return turns
+
+    assert asyncio.run(asyncio.wait_for(works(), SECONDS)) > 5
 
 
 @pytest.mark.filterwarnings("ignore::pytest.PytestUnraisableExceptionWarning")
@@ -138,6 +158,25 @@ def test_a_thread_that_writes_asks_for_nothing_before_it_can_go_on(kind: Callabl
     thread.start()
     time.sleep(0.1)
     assert not thread.has_ended
+
+
+def test_what_is_lost_is_told_though_memory_for_the_word_of_it_is_refused_once() -> None:
+    """Nobody reads the pipe, and the first word of that is lost."""
+    reader, output = os.pipe()
+    os.close(reader)
+    tries, told = list[str](), list[str]()
+
+    def lose(line: str, why: str) -> None:
+        tries.append(line)
+        if len(tries) == 1:
+            raise MemoryError
+        told.append(line)
+
+    writer = Writer(output, lose)
+    writer.add("STOPPED 1")
+    writer.thread.start()
+    assert writer.end(SECONDS) == 0 and told == ["STOPPED 1"]
+    os.close(output)
 
 
 def eventually(holds: Callable[[], bool]) -> bool:

@@ -8,6 +8,7 @@ import _thread
 import asyncio
 import collections
 import contextvars
+import time
 from collections.abc import Callable
 from typing import Generic, TypeVar
 
@@ -42,11 +43,17 @@ class Thread:
         self.run, self.begun, self.has_ended = run, held_lock(), False
 
     def start(self) -> "Thread":
-        """A RuntimeError says that the system gives no thread, or that it doesn't begin."""
-        _thread.start_new_thread(self._run, ())
+        """Waits until it has begun. A RuntimeError says that the system gives no thread, or that it doesn't begin."""
+        self.launch()
         if not self.begun.acquire(timeout=BEGIN_SECONDS):
             raise RuntimeError("a new thread doesn't begin")
         free(self.begun)
+        return self
+
+    def launch(self) -> "Thread":
+        """Starts it, and waits for nothing. A RuntimeError says that the system gives no thread. If memory is refused to its first call, it
+        never begins."""
+        _thread.start_new_thread(self._run, ())
         return self
 
     def _run(self) -> None:
@@ -70,7 +77,11 @@ class Signal:
         """Whether it was given within so many seconds. Without a number it waits as long as it takes."""
         if not self._ungiven.acquire(timeout=seconds):
             return False
-        free(self._ungiven)
+        # A call of `free` may ask for memory, and without that nobody else would see the signal.
+        try:
+            self._ungiven.release()
+        except RuntimeError:
+            pass
         return True
 
 
@@ -161,11 +172,14 @@ class _Job(Generic[Given, Result]):
             self.woken.set_result(None)
 
     async def wait(self, thread: Thread) -> Result:
-        """The result. MemoryError if the thread has ended without one."""
+        """The result. MemoryError if the thread has ended without one, or doesn't begin in time."""
+        end = time.monotonic() + BEGIN_SECONDS
         while not self.is_done:
             await asyncio.wait({self.woken}, timeout=LOOK_SECONDS)
             if thread.has_ended and not self.is_done:
                 raise MemoryError("the thread has ended")
+            if thread.begun.locked() and time.monotonic() > end:
+                raise MemoryError("a new thread doesn't begin")
         if self.fault:
             raise self.fault
         return self.result  # type: ignore[return-value]
@@ -193,9 +207,9 @@ class Worker(Generic[Given, Result]):
 
 
 async def in_thread(call: Callable[[], Result]) -> Result:
-    """The result of a call, which a thread of its own makes."""
+    """The result of a call, which a thread of its own makes. The loop goes on meanwhile, even if the thread doesn't begin."""
     job = _Job[None, Result](None)
-    return await job.wait(Thread(lambda: job.do(lambda _: call())).start())
+    return await job.wait(Thread(lambda: job.do(lambda _: call())).launch())
 
 
 def keeper(work: Callable[[], None], pause: float) -> Thread:

@@ -48,8 +48,8 @@ class Writer:
 
     def fail(self, data: bytes, why: str) -> None:
         if not self.has_failed:
-            self.has_failed = True
             self.lose(data.decode(errors="replace").rstrip(), why)
+            self.has_failed = True
 
     def end(self, seconds: float) -> int:
         """Waits at most so many seconds until all lines are read, and returns how many aren't. If the thread hasn't begun, the lines
