@@ -30,7 +30,7 @@
     X(ioctl) X(epoll_create1) X(epoll_ctl) X(epoll_wait) X(poll) X(select) X(pipe2) X(dup) X(fork) X(waitpid) X(wait4) \
     X(prctl) X(unshare) X(setrlimit) X(setrlimit64) X(mmap) X(pthread_create) X(pthread_sigmask) X(sigwait) X(sigaction) X(setpriority) X(nice) X(syscall) \
     X(getpeername) X(memfd_create) X(dup2) X(execve) X(setsid) X(kill) X(getrlimit) X(getrlimit64) \
-    X(opendir) X(fdopendir) X(readdir64) X(getcwd)
+    X(opendir) X(fdopendir) X(readdir64) X(getcwd) X(mmap64) X(openat64) X(fopen64)
 
 /* Requests for memory; each may be refused. With PYTHONMALLOC=malloc the program makes no others. */
 #define REQUESTS(X) X(malloc) X(calloc) X(realloc)
@@ -129,7 +129,7 @@ static int fails(int which, long first, long second, const void *caller) {
 
 /* Some calls return a pointer. */
 static int is_pointer(int which) {
-    return which == CALL_opendir || which == CALL_fdopendir || which == CALL_readdir64 || which == CALL_getcwd;
+    return which == CALL_opendir || which == CALL_fdopendir || which == CALL_readdir64 || which == CALL_getcwd || which == CALL_fopen64;
 }
 
 static long refused(int which, long a) {

@@ -13,7 +13,8 @@ from harness.conditions import NORMAL, Conditions
 SOURCE = Path(__file__).with_name("faults.c")
 FRONT, PAGE = "hpb.commands.front", "hpb.front.viewers"
 NUMBER = struct.Struct("Q")
-MEMORY = ("malloc", "calloc", "realloc")
+# By the last one Python gets room for the calls of a thread.
+MEMORY = ("malloc", "calloc", "realloc", "mmap64")
 
 
 def calls() -> list[str]:

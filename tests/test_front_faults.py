@@ -47,7 +47,7 @@ ERRORS: dict[str, tuple[int, ...]] = {
     **dict.fromkeys(calls(), (errno.ENOMEM, errno.EINVAL)),
     **dict.fromkeys(("read", "write", "close", "lseek", "lseek64", "pread64", "pwrite64", "ftruncate64", "fsync", "fdatasync"), (*DISK, errno.EINTR)),
     **dict.fromkeys(("recv", "send", "sendto", "shutdown", "connect", "getsockname", "getsockopt", "setsockopt"), NETWORK),
-    **dict.fromkeys(("open", "open64", "openat", "rename", "unlink", "link", "execve", "opendir"), (*NAMES, errno.EIO)),
+    **dict.fromkeys(("open", "open64", "openat", "openat64", "fopen64", "rename", "unlink", "link", "execve", "opendir"), (*NAMES, errno.EIO)),
     **dict.fromkeys(("accept4",), (errno.EMFILE, errno.ECONNABORTED, errno.ENOMEM)),
     **dict.fromkeys(("fork", "pthread_create"), (errno.EAGAIN, errno.ENOMEM)),
     **dict.fromkeys(MEMORY, (errno.ENOMEM,)),

@@ -110,11 +110,16 @@ def test_standard_error_that_nobody_reads_holds_up_no_end(front: Front) -> None:
     os.close(reader)
 
 
-@pytest.mark.parametrize("number", range(1, 8))
-def test_a_thread_that_is_refused_is_told(front: Front, faults: Faults, number: int) -> None:
-    """Each thread that a front starts. If it is refused, the front says so, and ends or tries again and serves."""
+@pytest.mark.parametrize(
+    ("call", "number", "error"),
+    [*(("pthread_create", number, errno.EAGAIN) for number in range(1, 8)), *(("mmap64", number, errno.ENOMEM) for number in (2, 7))],
+)
+def test_a_thread_that_is_refused_is_told(front: Front, faults: Faults, call: str, number: int, error: int) -> None:
+    """Each thread that a front starts, or the memory for its first call. If it is refused, the front says so, and ends or tries again and
+    serves.
+    """
     try:
-        front.start(conditions=faults.of(FRONT, front.config, "pthread_create", number, errno.EAGAIN))
+        front.start(conditions=faults.of(FRONT, front.config, call, number, error))
     except StartsNot as ended:
         assert (ended.ran.status, "thread" in ended.ran.errors) == (1, True), ended.ran
         front.start()

@@ -11,7 +11,7 @@ from collections.abc import Callable
 from pathlib import Path
 
 import pytest
-from faults import FRONT, SOURCE
+from faults import FRONT, SOURCE, calls
 from harness.conditions import NORMAL
 from harness.programs import Program
 from sites import Sweep
@@ -89,6 +89,14 @@ def test_parts_have_each_site_once(toy: Callable[[Sweep], str], room: Path) -> N
 def test_calls_without_errors_never_fail(toy: Callable[[Sweep], str], room: Path) -> None:
     sweep = Sweep(room / "sites", {"read": ERRORS})
     assert toy(sweep) == "aaab" and not sweep.disarm()
+
+
+def test_a_call_fails_by_whichever_name_python_makes_it() -> None:
+    """Python has many calls under a second name, as mmap64."""
+    table = subprocess.run(["nm", "-D", "--undefined-only", sys.executable], capture_output=True, text=True, check=True).stdout
+    made = {line.split()[-1].split("@")[0] for line in table.splitlines()}
+    assert "pread64" in made
+    assert {f"{call}64" for call in calls()} & made <= set(calls())
 
 
 # Bugs that are planted in a front, by a module that Python loads at its start.
