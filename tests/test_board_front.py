@@ -231,7 +231,7 @@ def test_a_page_without_its_front_ends_though_nobody_reads_its_words(front: Fron
         numbers = [listener.fileno(), given]
         page = subprocess.Popen(
             [sys.executable, "-P", "-m", PAGE, str(front.config), *map(str, numbers)],
-            stdin=its,
+            stdin=its.fileno(),
             stdout=subprocess.DEVNULL,
             stderr=writer,
             pass_fds=numbers,
