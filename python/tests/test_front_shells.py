@@ -230,6 +230,24 @@ def test_a_record_that_fails_is_told_once_and_nothing_more_is_written(fault: Exc
     asyncio.run(talk())
 
 
+def test_a_record_that_fails_ends_the_front_though_memory_for_the_word_of_it_is_refused() -> None:
+    """The loop takes what is raised: else the front would go on, and answer nobody."""
+    async def talk() -> None:
+        record, taken = SlowRecord(fault=OSError(5, "Input/output error")), list[object]()
+        record.may_write.set()
+
+        def refuse(_: Event) -> None:
+            raise MemoryError
+
+        asyncio.get_running_loop().set_exception_handler(lambda _, context: taken.append(context.get("exception")))
+        recorder = Recorder(record, refuse)
+        recorder.write(effects.Write("a", {}))
+        await until(lambda: len(taken) == 1)
+        assert isinstance(taken[0], MemoryError)
+
+    asyncio.run(talk())
+
+
 @pytest.mark.parametrize("fault", [NotKept("R was removed"), OSError(5, "Input/output error")])
 def test_a_record_that_isnt_kept_is_missed_though_nothing_is_written(fault: Exception, monkeypatch: pytest.MonkeyPatch) -> None:
     monkeypatch.setattr(front_recorder, "KEPT_SECONDS", 0.01)

@@ -102,6 +102,7 @@ class Writer(Generic[Item]):
         self.waiting.append(item)
         if self.writing is None:
             self.writing = asyncio.create_task(self.write())
+            self.writing.add_done_callback(raise_fault)
 
     async def write(self) -> None:
         # Any failure, even a lack of memory, ends the front with a message: without the record nobody can be answered.
@@ -120,6 +121,12 @@ class Writer(Generic[Item]):
                 # It is called later, so that a failure of it isn't taken for one of the record.
                 loop.call_soon(self.post, event)
         self.writing = None
+
+
+def raise_fault(task: asyncio.Task[None]) -> None:
+    """Raises the fault of a task that nobody waits for, so that the event loop takes it, and the front ends."""
+    if not task.cancelled():
+        task.result()
 
 
 class Recorder:
