@@ -6,6 +6,7 @@ import errno
 import json
 import os
 import signal
+import sys
 from pathlib import Path
 
 import pytest
@@ -200,6 +201,25 @@ def test_a_log_that_another_user_made_first_isnt_written(room: Path, nobody: Use
     log.end(20)
     assert told == [f"the log can't be written: {folder / 'L'}: another user owns it; look whose it is, and move it"]
     assert (folder / "L").stat().st_size == 0
+
+
+@pytest.mark.parametrize("calls", ["pread", "fstat"])
+def test_a_log_that_cant_be_read_takes_no_descriptors(tmp_path: Path, monkeypatch: pytest.MonkeyPatch, calls: str) -> None:
+    """However often it is tried: each line opens it again. The front has none to spare."""
+    Rotated(str(tmp_path / "L"), 10_000, 3).write(LINE)
+    log, call, names = Rotated(str(tmp_path / "L"), 10_000, 3), getattr(os, calls), list[int]()
+
+    def fails(file: int, *others: int) -> object:
+        if sys._getframe(1).f_code.co_filename.endswith("log.py"):
+            raise OSError(errno.EIO, os.strerror(errno.EIO))
+        return call(file, *others)
+
+    monkeypatch.setattr(os, calls, fails)
+    for _ in range(3):
+        with pytest.raises(OSError, match="Input/output error"):
+            log.write(LINE)
+        names.append(len(os.listdir("/proc/self/fd")))
+    assert names == names[:1] * 3
 
 
 # Unfinished lines.

@@ -102,8 +102,12 @@ class Rotated:
 
     def open(self) -> Stream:
         file = open_log(self.path)
-        length = os.fstat(file).st_size
-        self.stream = Stream(file, bool(length) and os.pread(file, 1, length - 1) != b"\n")
+        try:
+            length = os.fstat(file).st_size
+            self.stream = Stream(file, bool(length) and os.pread(file, 1, length - 1) != b"\n")
+        except BaseException:
+            os.close(file)
+            raise
         return self.stream
 
     def rotate(self) -> None:
@@ -124,11 +128,14 @@ class Rotated:
 def open_log(path: str) -> int:
     """Opens a log, or makes it if there is none. An OSError says that the file is something else, or belongs to somebody else."""
     file = open_own(path, os.O_RDWR | os.O_APPEND)
-    begun = os.pread(file, LOOKED_AT, 0).lstrip(b"\0")
-    if begun.startswith(BEGINNING) or BEGINNING.startswith(begun):
-        return file
-    os.close(file)
-    raise OSError(errno.EEXIST, "it is no log of a front; move it, or name another one", path)
+    try:
+        begun = os.pread(file, LOOKED_AT, 0).lstrip(b"\0")
+        if not (begun.startswith(BEGINNING) or BEGINNING.startswith(begun)):
+            raise OSError(errno.EEXIST, "it is no log of a front; move it, or name another one", path)
+    except BaseException:
+        os.close(file)
+        raise
+    return file
 
 
 @dataclass
