@@ -231,7 +231,7 @@ def test_a_record_that_fails_is_told_once_and_nothing_more_is_written(fault: Exc
 
 
 def test_a_record_that_fails_ends_the_front_though_memory_for_the_word_of_it_is_refused() -> None:
-    """The loop takes what is raised: else the front would go on, and answer nobody."""
+    """The loop takes the fault. Else the front would go on, and answer nobody."""
     async def talk() -> None:
         record, taken = SlowRecord(fault=OSError(5, "Input/output error")), list[object]()
         record.may_write.set()
