@@ -5,7 +5,8 @@ A site is known by the code that leads to it (`sites.h`), so it is the same one 
 of a process that has done its imports. At the start and at the end of a front each fault has a front of its own. While it serves, one front
 gets many faults, one after the other: the next one comes when all went on behind the last.
 
-In the gate it is a sample by a seed; the variable SEED chooses another one. With `--long` it is every site, in as many parts as there are processors.
+In the gate it is a sample by a seed; the variable SEED chooses another one, and PART one of the parts. With `--long` it is every site, in as many
+parts as there are processors.
 """
 
 from __future__ import annotations
@@ -271,7 +272,8 @@ def test_a_sample_of_all_faults(sweeper: Sweepers, module: str) -> None:
     seed = int(os.environ.get("SEED", GATE_SEED))
     print(f"SEED={seed}")
     source = random.Random(seed)
-    made = sweeper(module, source.randrange(SAMPLE_PARTS), SAMPLE_PARTS, SAMPLE_SECONDS, source)
+    chosen = source.randrange(SAMPLE_PARTS)
+    made = sweeper(module, int(os.environ.get("PART", chosen)), SAMPLE_PARTS, SAMPLE_SECONDS, source)
     go_through(made, phases_of(made, module, most=2))
     assert made.faults() > 0
 
