@@ -15,13 +15,15 @@ from hpb.front.core import Front, Phase, Setting, effects, events, new_front, st
 from hpb.front.core.clock import Closing, Plan
 from hpb.front.core.effects import Effect
 from hpb.front.core.events import Event, Left
+from hpb.front.core.information import Information
+from hpb.front.information import with_rules
 from hpb.front.limits import DEFAULTS, Limits
 from hpb.front.rights import Role
 from hpb.front.tokens import Tokens
 from hpb.lines import format_answer
 from hpb.record import Entry, Place, State
 from hpb.rules import Auction, answer, begin, read_definition
-from hpb.rules.tree import tree_of
+from hpb.rules.tree import Tree, tree_of
 from serving import DEFINITION
 
 ROLES = {
@@ -93,7 +95,7 @@ class Disk:
         lines = None if state.lines is None else tuple(state.lines)
         return events.RecordOpened(
             state.count, state.used, state.foreign, (*left, *self.beside.values()), self.place, lines, state.clock, tuple(state.news), state.told,
-            state.read,
+            state.read, tuple(state.order), state.is_unveiled,
         )
 
     @property
@@ -203,11 +205,16 @@ class World:
     utc_error: float = 0.0
     is_synchronised: bool = True
     drift: float = 0.0
+    # The definition, and the rules on information.
+    tree: Tree = TREE
+    information: Information | None = None
 
     # The front's process.
 
     def start(self) -> None:
-        setting = Setting(TREE, ROLES, self.sessions, has_board=True, plan=self.plan, closing=self.closing)
+        rules = self.information
+        roles = with_rules(rules, ROLES) if rules else ROLES
+        setting = Setting(self.tree, roles, self.sessions, has_board=True, plan=self.plan, closing=self.closing, information=rules)
         self.front = new_front(setting, self.limits, tokens_of(self.tokens), self.clock)
         self.server.state, self.is_admitting, self.written = "down", False, []
         self.watch.started(self)

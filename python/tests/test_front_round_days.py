@@ -193,7 +193,7 @@ def told_before_it_is_written(patch: Patch) -> None:
 
 def told_to_others(patch: Patch) -> None:
     """Everybody gets news that are for one name."""
-    patch.setattr(news, "seen_by", lambda name, role, fact: True)
+    patch.setattr(news, "seen_by", lambda viewer, fact: fact)
 
 
 def never_ends(patch: Patch) -> None:

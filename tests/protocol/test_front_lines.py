@@ -21,12 +21,14 @@ LINES = (
     "SAY all text",
     "PREVIEW",
     "AGREE 1",
+    "INFORMATION",
+    "UNVEIL",
 )
 
 
 @sentences(
     """A front takes each .. `hpb` itself refuses these .. `IN r BID ..`, `IN r WAIVE ..` | a command .. `CLOSE ticket ENDING` | a close .. `SCHEDULE`, `EVENT n`, ..
-    `OPEN`, `EXTEND`, .."""
+    `OPEN`, `EXTEND`, .. `INFORMATION`, `UNVEIL` | what this .."""
 )
 @pytest.mark.parametrize("line", LINES)
 def test_the_program_itself_refuses_lines_of_a_front(program: Program, line: str) -> None:

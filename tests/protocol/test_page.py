@@ -82,6 +82,10 @@ ELSEWHERE: dict[str, str] = {
     """An answer to these has .. `ERR front word` is .. A command that it refuses ..""": (
         "def test_answers_of_a_front_are_read_and_written(; def test_a_bid_of_another_round_is_sent_nowhere("
     ),
+    """A front whose rules limit .. A high bidder may be .. So a `-` behind a .. The number in an `OK` ..""": (
+        "def test_each_name_sees_its_own_high_bids_and_pseudonyms_for_others(; def test_without_names_there_are_but_the_viewers_own(; "
+        "def test_the_count_is_that_of_the_last_close_and_the_revenue_is_left_out(; def test_all_is_unveiled_once_the_auction_is_over_and_stays_so("
+    ),
     """Several answers ..""": "def check_one_moment(folder) or def test_what_is_shown_is_of_one_moment(",
 }
 

@@ -238,7 +238,7 @@ class NoMemory(Refused, number=90, word="memory"):
 class DeviceFault(Refused, number=91, word="device"):
     meaning = (
         "the file can't be opened, made, read, written or synced, is in use, or is one of the standard streams. Or it would be made of another"
-        " user's file, or of one that others may write"
+        " user's file, of one that others may write, or through another user's link or one that leads to no file"
     )
     advice = "standard error says which. To a command of hpb run, or at the end of hpb serve: see after a 91"
 
@@ -287,6 +287,7 @@ class FrontRefused(HpbError):
         "end": "this close would end the auction, and doesn't say so",
         "second": "this close would end the auction, and no second name has agreed",
         "unknown": "it isn't known",
+        "running": "the auction isn't over yet",
     }
 
     def __init__(self, word: str) -> None:

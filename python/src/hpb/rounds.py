@@ -93,7 +93,21 @@ class Prospect:
     after: int
 
 
-FrontAnswer: TypeAlias = Schedule | News | NoNews | ReadUpTo | Agreed | Previewed | Prospect
+@dataclass(frozen=True, slots=True)
+class InformationShown:
+    """The answer to `INFORMATION`: what this name may know now. A front whose configuration has no such rules refuses the question.
+
+    `phase` is `running` or `unveiled`. `identities` is `all`, `own` (others have pseudonyms) or `none` (others have no name). If the count
+    isn't exact, `COUNT` is that of the last close. If the revenue isn't shown, `REVENUE` is 0.
+    """
+
+    phase: str
+    identities: str
+    is_count_exact: bool
+    has_revenue: bool
+
+
+FrontAnswer: TypeAlias = Schedule | News | NoNews | ReadUpTo | Agreed | Previewed | Prospect | InformationShown
 
 _WHOLE, _NAME, _TIME = r"(0|[1-9][0-9]{0,19})", NAME.pattern, r"([0-9]{4}-[0-9]{2}-[0-9]{2}T[0-9]{2}:[0-9]{2}:[0-9]{2}Z)"
 _SCHEDULE = re.compile(rf"SCHEDULE ROUND {_WHOLE} STATE ([a-z]+) OPENS (?:-|{_TIME}) UNTIL (?:-|{_TIME}) LEFT {_WHOLE} NOW {_TIME}")
@@ -103,6 +117,8 @@ _SUM = re.compile(rf"PREVIEW ROUND {_WHOLE} REVENUE {_WHOLE} SHORT {_WHOLE} WAIV
 _PROSPECT = re.compile(
     rf"PREVIEW ({_NAME}) ELIGIBILITY {_WHOLE} ACTIVITY {_WHOLE} SHORT {_WHOLE} WAIVER (own|auto|none) AFTER {_WHOLE}"
 )
+
+_INFORMATION = re.compile(r"INFORMATION (running|unveiled) IDENTITIES (all|own|none) COUNT (exact|closes) REVENUE (yes|no)")
 
 
 def parse_front_answer(text: str) -> FrontAnswer | None:
@@ -122,6 +138,8 @@ def parse_front_answer(text: str) -> FrontAnswer | None:
         return Previewed(round_, revenue, short, waivers, losing, found[6] == "yes")
     if found := _PROSPECT.fullmatch(text):
         return Prospect(found[1], int(found[2]), int(found[3]), int(found[4]), found[5], int(found[6]))
+    if found := _INFORMATION.fullmatch(text):
+        return InformationShown(found[1], found[2], found[3] == "exact", found[4] == "yes")
     return None
 
 
@@ -143,3 +161,6 @@ def format_front_answer(answer: FrontAnswer) -> str:
             return f"PREVIEW ROUND {round_} REVENUE {revenue} {sums} ENDS {'yes' if ends else 'no'}"
         case Prospect(bidder, eligibility, activity, short, waiver, after):
             return f"PREVIEW {bidder} ELIGIBILITY {eligibility} ACTIVITY {activity} SHORT {short} WAIVER {waiver} AFTER {after}"
+        case InformationShown(phase, identities, is_count_exact, has_revenue):
+            count = "exact" if is_count_exact else "closes"
+            return f"INFORMATION {phase} IDENTITIES {identities} COUNT {count} REVENUE {'yes' if has_revenue else 'no'}"

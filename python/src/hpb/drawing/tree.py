@@ -198,8 +198,15 @@ def whole_picture(tree: Tree, told: Told) -> str:
     return kind(tree, told, most_rows=len(tree.nodes)).part(1, STYLE) + "\n"
 
 
+def bid_of(node: NodeShown) -> str:
+    """A high bid in words. A front may hide whose it is."""
+    if node.bidder:
+        return f"{money(node.high)} of {node.bidder}"
+    return money(node.high) if node.high else "no bid"
+
+
 def _texts_of(node: NodeShown) -> _Texts:
-    bid = f"{money(node.high)} of {node.bidder}" if node.bidder else "no bid"
+    bid = bid_of(node)
     return node.name + (_WINS if node.wins else ""), bid, f"price {money(node.price)}", f"minimum {money(node.minimum)}"
 
 

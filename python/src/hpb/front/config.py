@@ -10,8 +10,10 @@ from typing import Any
 
 from hpb.file import read_head, read_image
 from hpb.front.certificate import Certificate
+from hpb.front.core.information import Information
 from hpb.front.faults import Wrong
 from hpb.front.files import Kept, look_at_files, of_change, of_log, of_record, read_by_all
+from hpb.front.information import read_information
 from hpb.front.limits import LIMITS, Limits
 from hpb.front.log import JOURNAL, STANDARD_ERROR, Journal, Log, Rotated, Sink, Stream
 from hpb.front.network import Address
@@ -37,9 +39,9 @@ LOG_LIMITS = {
 }
 TEXTS = ["file", "record", "tokens", "listen"]
 OPTIONAL_TEXTS = ["program", "certificate", "key"]
-FIELDS = {*TEXTS, *OPTIONAL_TEXTS, "port", "plain", "shared_network", "names", "limits", "board", "log", "rounds", "closing"}
+FIELDS = {*TEXTS, *OPTIONAL_TEXTS, "port", "plain", "shared_network", "names", "limits", "board", "log", "rounds", "closing", "information"}
 # Fields that can't change while a front runs; all others are read again at SIGHUP.
-FIXED = ["file", "record", "tokens", "program", "port", "shared_network", "host", "listen_port", "roles", "board", "log", "plan", "closing"]
+FIXED = ["file", "record", "tokens", "program", "port", "shared_network", "host", "listen_port", "roles", "board", "log", "plan", "closing", "information"]
 # The kinds of log lines that strangers can cause.
 STRANGERS = ["connection", "token", "ended", "page"]
 # The fields of files that have bids of the open round.
@@ -129,6 +131,9 @@ class Config:
         self.board = BoardPlace.read(table_of(given, "board")) if "board" in given else None
         self.plan = read_plan(table_of(given, "rounds", is_needed=False)) if "rounds" in given else None
         self.closing, self.roles = read_closing(table_of(given, "closing", is_needed=False), read_roles(table_of(given, "names")), self.plan)
+        self.information: Information | None = None
+        if "information" in given:
+            self.information, self.roles = read_information(table_of(given, "information", is_needed=False), self.roles)
         self.certificate, self.key = (str(self.folder / more[field]) if field in more else None for field in OPTIONAL_TEXTS[1:])
         self.log = LogPlace.read(table_of(given, "log", is_needed=False), self.folder, f"{texts['record']}.log")
         self.look_at_transport(truth(given, "plain"))

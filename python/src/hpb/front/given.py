@@ -10,6 +10,8 @@ from dataclasses import dataclass
 from hpb.file import read_head, read_image
 from hpb.front.certificate import Certificate
 from hpb.front.config import Config
+from hpb.front.core.information import Information
+from hpb.front.information import read_information, table_of
 from hpb.front.rights import Role, role_of
 from hpb.front.terms import Terms
 from hpb.front.tokens import Tokens
@@ -29,6 +31,7 @@ class Given:
     log_lines_per_second: int
     tokens: Tokens
     certificate: Certificate | None
+    information: Information | None = None
 
 
 def written(config: Config, terms: Terms) -> bytes:
@@ -43,6 +46,7 @@ def written(config: Config, terms: Terms) -> bytes:
         "log_lines_per_second": config.log.lines_per_second,
         "tokens": terms.tokens.text(config.roles),
         "certificate": [certificate.chain.decode("latin-1"), certificate.key.decode("latin-1")] if certificate else None,
+        "information": table_of(config.information) if config.information else None,
     }
     return json.dumps(fields).encode()
 
@@ -51,6 +55,9 @@ def read(data: bytes) -> Given:
     fields = json.loads(data)
     tree = tree_of(read_head(read_image(fields["file"], is_quiet=False)).definition)
     roles = {name: role_of(shown) for name, shown in fields["roles"].items()}
+    information = None
+    if fields["information"] is not None:
+        information, roles = read_information(fields["information"], roles)
     chain, key = fields["certificate"] or ("", "")
     return Given(
         tree,
@@ -60,6 +67,7 @@ def read(data: bytes) -> Given:
         fields["log_lines_per_second"],
         Tokens(fields["tokens"], roles),
         Certificate.of(chain.encode("latin-1"), key.encode("latin-1")) if chain else None,
+        information,
     )
 
 

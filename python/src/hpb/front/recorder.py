@@ -85,7 +85,7 @@ def opened(record: Record) -> RecordOpened:
     lines = None if state.lines is None else tuple(state.lines)
     return RecordOpened(
         state.count, dict(state.used), state.foreign, tuple(left), record.place, lines, dict(state.clock), tuple(state.news), dict(state.told),
-        dict(state.read),
+        dict(state.read), tuple(state.order), state.is_unveiled,
     )
 
 

@@ -12,11 +12,13 @@ NAMES_A_BIDDER = {b"BID", b"WAIVE", b"WHO"}
 # Lines that the front answers by itself: how many words each has at least and at most (docs/ROUNDS.md).
 OWN_WORDS = {
     b"OPEN": (4, 5), b"EXTEND": (3, 3), b"PAUSE": (1, 1), b"RESUME": (1, 1), b"SCHEDULE": (1, 1), b"EVENT": (1, 2), b"READ": (2, 2),
-    b"SAY": (3, 128), b"PREVIEW": (1, 2), b"AGREE": (2, 2),
+    b"SAY": (3, 128), b"PREVIEW": (1, 2), b"AGREE": (2, 2), b"INFORMATION": (1, 1), b"UNVEIL": (1, 1),
 }
-EVERYBODY = {b"SHOW", b"NODE", b"SCHEDULE", b"EVENT", b"READ"}
+# Of these, the ones that there are only with rules on information (docs/FRONT.md).
+OF_INFORMATION = {b"INFORMATION", b"UNVEIL"}
+EVERYBODY = {b"SHOW", b"NODE", b"SCHEDULE", b"EVENT", b"READ", b"INFORMATION"}
 ALLOWED = {
-    AUCTIONEER: {b"CLOSE", b"STAGE", b"WHO", b"OPEN", b"EXTEND", b"PAUSE", b"RESUME", b"SAY", b"PREVIEW", *EVERYBODY},
+    AUCTIONEER: {b"CLOSE", b"STAGE", b"WHO", b"OPEN", b"EXTEND", b"PAUSE", b"RESUME", b"SAY", b"PREVIEW", b"UNVEIL", *EVERYBODY},
     BIDDER: {b"BID", b"WAIVE", b"WHO", *EVERYBODY},
     OBSERVER: EVERYBODY,
 }
@@ -24,8 +26,9 @@ TOKEN, IN, ENDING = b"TOKEN ", b"IN", b"ENDING"
 # The front's own refusals: the words after `ERR front`.
 FORM, RIGHTS, LONG, UNKNOWN, MANY, IDLE, *OF_ROUNDS = REFUSALS = (
     "line", "rights", "long", "token", "many", "idle", "closed", "round", "clock", "end", "second", "unknown",
+    "running",
 )
-CLOSED, ROUND, CLOCK, END, SECOND, NOT_KNOWN = OF_ROUNDS
+CLOSED, ROUND, CLOCK, END, SECOND, NOT_KNOWN, RUNNING = OF_ROUNDS
 WHOLE = re.compile(rb"[1-9][0-9]{0,6}")
 
 
@@ -41,11 +44,13 @@ def welcome(name: str) -> bytes:
 
 class Role(NamedTuple):
     """The rights of a name. `bidders` are those for whom a bidder may bid. `agrees` says whether it may agree to a close that ends the
-    auction."""
+    auction. `has_rules` says whether there are rules on information, and `sees_all` whether they don't hold for it."""
 
     kind: str
     bidders: tuple[str, ...] = ()
     agrees: bool = False
+    has_rules: bool = False
+    sees_all: bool = False
 
     def refusal(self, line: bytes) -> str | None:
         """The word by which the front refuses a line, or None if it takes it."""
@@ -61,7 +66,7 @@ class Role(NamedTuple):
             words = words[:2]
         if len(words) != WORDS.get(words[0]) or b"" in words:
             return FORM
-        if words[0] not in ALLOWED[self.kind]:
+        if words[0] not in ALLOWED[self.kind] and not (self.sees_all and words[0] == b"WHO"):
             return RIGHTS
         if self.kind == BIDDER and words[0] in NAMES_A_BIDDER and words[1].decode("latin-1") not in self.bidders:
             return RIGHTS
@@ -72,11 +77,13 @@ class Role(NamedTuple):
         least, most = OWN_WORDS[words[0]]
         if not least <= len(words) <= most or b"" in words or any(byte < 32 or byte == 127 for byte in line):
             return FORM
+        if words[0] in OF_INFORMATION and not self.has_rules:
+            return FORM
         return None if self.agrees and words[0] == b"AGREE" or words[0] in ALLOWED[self.kind] else RIGHTS
 
     def seen(self, tree: Tree) -> list[str]:
         """The bidders of a definition about which this role may ask WHO."""
-        everyone: dict[str, list[str]] = {AUCTIONEER: list(tree.bidders), OBSERVER: []}
+        everyone: dict[str, list[str]] = {AUCTIONEER: list(tree.bidders), OBSERVER: list(tree.bidders) if self.sees_all else []}
         return everyone.get(self.kind, list(self.bidders))
 
     def shown(self) -> list[str] | str:

@@ -41,7 +41,7 @@ class Running:
         setting = Setting(
             tree, config.roles, config.sessions(), has_board=config.board is not None, starts_server=config.port is None,
             may_be_foreign=shell.given.foreign, record=config.record_name(), address=f"{host} {port}", plan=config.plan,
-            closing=config.closing,
+            closing=config.closing, information=config.information,
         )
         self.machine = Machine(new_front(setting, terms.limits, terms.tokens, loop.time()), loop.time)
         post = self.machine.post

@@ -17,11 +17,12 @@ import sys
 from hpb.front.faults import Wrong
 from hpb.front.given import Given, read, read_all
 from hpb.front.log import Log, Stream
+from hpb.front.sight import limit_of
 from hpb.front.words import cry
 from hpb.pages.following import Follower
 from hpb.pages.server import Server
 from hpb.pages.view import State, View
-from hpb.pages.walls import Known, Wall
+from hpb.pages.walls import Known, Limit, Wall
 from hpb.refusals import HpbError, says
 from hpb.streams import STANDARD_ERROR
 from hpb.threads import Thread
@@ -40,7 +41,13 @@ def front_connection(patience: float) -> socket.socket:
 def known_of(given: Given, view: View) -> Known:
     """A wall for each name, which shows the bidders about whom the name may ask."""
     tree = given.tree
-    return Known(given.tokens, {name: Wall(tree, role.seen(tree), view, given.viewers, name) for name, role in given.roles.items()})
+    walls = {name: Wall(tree, role.seen(tree), view, given.viewers, name, limit_for(given, name)) for name, role in given.roles.items()}
+    return Known(given.tokens, walls)
+
+
+def limit_for(given: Given, name: str) -> Limit | None:
+    """Without rules on information nothing is hidden but bidders of other names."""
+    return limit_of(given.information, given.tree, name, given.roles[name]) if given.information else None
 
 
 def followed(follower: Follower) -> None:

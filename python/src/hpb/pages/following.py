@@ -7,13 +7,13 @@ import dataclasses
 import socket
 import time
 from collections.abc import Callable, Sequence
-from typing import Final
+from typing import Final, Protocol
 
 from hpb.lines import Shown, parse_answer
 from hpb.pages import reaching
 from hpb.pages.view import Contact, State, Told, View, period, taken
 from hpb.refusals import HpbError
-from hpb.rounds import News, ReadUpTo, Schedule
+from hpb.rounds import InformationShown, News, ReadUpTo, Schedule, parse_front_answer
 from hpb.rules.told import NotTold, look_whose, read_standing, read_told
 from hpb.rules.told import Told as Standing
 from hpb.rules.tree import Tree
@@ -23,7 +23,7 @@ ADDRESS: Final = "127.0.0.1"
 # In seconds: the pause between two questions, and how long to wait for an answer before the server is reported silent.
 PACE: Final = 1.0
 PATIENCE: Final = 5.0
-_QUESTIONS = ("SHOW", "NODE", "WHO", "SCHEDULE", "EVENT", "READ")
+_QUESTIONS = ("SHOW", "NODE", "WHO", "SCHEDULE", "EVENT", "READ", "INFORMATION")
 # So many news of a name are kept.
 _MOST_NEWS = 200
 _MOST_LINE = 65_536
@@ -55,6 +55,13 @@ def started(target: Callable[..., None], *words: object) -> None:
 def at_port(port: int) -> Opens:
     """A function that makes connections to a port of this machine."""
     return lambda patience: reaching.dialled((ADDRESS, port), patience)
+
+
+class Asks(Protocol):
+    """A session with a server or a front."""
+
+    def ask(self, questions: Sequence[str]) -> list[str]:
+        """The answer to each question, in order."""
 
 
 class Session:
@@ -116,7 +123,7 @@ class Follower:
         self._pace, self._patience, self._stopped = pace, patience, Signal()
         self._node_lines: list[str] = []
         self._is_settled = True
-        self._names = list(names)
+        self._names, self._has_rules = list(names), bool(names)
         self.view = View(None, Contact(State.WAITING, time.time(), places))
 
     def stop(self) -> None:
@@ -150,20 +157,25 @@ class Follower:
             return None
         contact = self.view.contact
         self.view = self.view._replace(contact=contact._replace(places=contact.places - 1))
-        # Perhaps another auction is served now, so nodes are asked about again.
-        self._node_lines = []
+        # Perhaps another auction is served now, or by other rules: so nodes and rules are asked about again.
+        self._node_lines, self._has_rules = [], bool(self._names)
         return session
 
     def _keep_asking(self, session: Session) -> None:
         """Asks until the auction is over; nothing changes after that."""
         while not self._stopped.wait(0):
-            self._ask(session)
-            if self.view.seen and self.view.seen.standing.shown.is_over:
+            self.look(session)
+            if self.view.seen and self.view.seen.standing.shown.is_over and not self._waits_for_unveiling():
                 self._tell(State.OVER)
                 return
             self._stopped.wait(self._pace)
 
-    def _ask(self, session: Session) -> None:
+    def _waits_for_unveiling(self) -> bool:
+        """Whether the page of a front has more to show to some of its names, once all is unveiled."""
+        return self.view.information.startswith("INFORMATION running CLOSES ")
+
+    def look(self, session: Asks) -> None:
+        """Asks once, and publishes a new view if anything has changed."""
         shown = _read_shown(session.ask(["SHOW"])[0])
         old = self.view.seen.standing if self.view.seen else None
         now = old
@@ -177,7 +189,7 @@ class Follower:
         elif self.view.contact.state != State.LIVE:
             self._tell(State.LIVE)
 
-    def _ask_front(self, session: Session) -> bool:
+    def _ask_front(self, session: Asks) -> bool:
         """Asks a front for the state of its round clock, and for news. Returns whether there was anything new. An older front has neither."""
         if not self._names:
             return False
@@ -186,11 +198,18 @@ class Follower:
             self._names = []
             return False
         told = {name: self._told(session, name) for name in self._names}
-        is_new = _without_time(schedule) != _without_time(self.view.schedule) or told != self.view.told
-        self.view = self.view._replace(schedule=schedule, told=told)
+        information = self._ask_rules(session)
+        is_new = _without_time(schedule) != _without_time(self.view.schedule) or told != self.view.told or information != self.view.information
+        self.view = self.view._replace(schedule=schedule, told=told, information=information)
         return is_new
 
-    def _told(self, session: Session, name: str) -> Told:
+    def _ask_rules(self, session: Asks) -> str:
+        """A front's answer about the rules on information. If it has none, it isn't asked again."""
+        answer = session.ask(["INFORMATION"])[0] if self._has_rules else ""
+        self._has_rules = answer.startswith("INFORMATION ")
+        return answer if self._has_rules else ""
+
+    def _told(self, session: Asks, name: str) -> Told:
         """The news of a name, with those that came since."""
         told, whose = self.view.told.get(name, Told()), f" {name}" if name else ""
         for _ in range(_MOST_NEWS):
@@ -203,7 +222,7 @@ class Follower:
         read = parse_answer(session.ask([f"READ {name or 0}"])[0])
         return told._replace(read=read.number) if isinstance(read, ReadUpTo) else told
 
-    def _read(self, session: Session, shown: Shown, old: Standing | None) -> Standing | None:
+    def _read(self, session: Asks, shown: Shown, old: Standing | None) -> Standing | None:
         """The answers to all questions at one moment. If closes came between them at each attempt, None."""
         whos, nodes = [f"WHO {name}" for name in self._bidders], [f"NODE {name}" for name in self._tree.nodes]
         for _ in range(_ATTEMPTS):
@@ -219,7 +238,7 @@ class Follower:
                 return read_told(self._tree, [*self._node_lines, *lines[: len(whos)], last])
         return None
 
-    def _answers(self, session: Session, questions: Sequence[str]) -> list[str]:
+    def _answers(self, session: Asks, questions: Sequence[str]) -> list[str]:
         lines = session.ask(questions)
         for question, line in zip(questions, lines):
             if line.startswith("ERR front "):
@@ -229,9 +248,16 @@ class Follower:
         return lines
 
     def _take(self, now: Standing) -> None:
-        look_whose(self._tree, now)
-        self.view = self.view._replace(seen=taken(self._tree, self._bidders, self.view.seen, now))
+        rules = self._rules()
+        look_whose(self._tree, now, has_pseudonyms=rules.identities == "own")
+        seen = taken(self._tree, self._bidders, self.view.seen, now)
+        self.view = self.view._replace(seen=seen._replace(hides_count=not rules.is_count_exact, hides_revenue=not rules.has_revenue))
         self._tell(State.LIVE)
+
+    def _rules(self) -> InformationShown:
+        """What the name of this connection may know."""
+        found = parse_front_answer(self.view.information)
+        return found if isinstance(found, InformationShown) else InformationShown("running", "all", True, True)
 
     def _is_silent(self) -> None:
         if self._stopped.wait(0):

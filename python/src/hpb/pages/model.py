@@ -5,7 +5,7 @@ from typing import Final, NamedTuple
 
 from hpb.amounts import money
 from hpb.pages.rounds import clock_says, news_says
-from hpb.pages.telling import NOBODY, bidder_texts, close_says, closes_say, contact_says, node_texts, outlook, round_says, stage_says
+from hpb.pages.telling import NOBODY, bidder_texts, close_says, closes_say, contact_says, node_texts, outlook, revenue_says, round_says, stage_says
 from hpb.pages.view import Seen, View
 from hpb.rules.tree import Tree
 
@@ -65,7 +65,7 @@ def _summary(tree: Tree, seen: Seen) -> dict[str, str]:
         "round": str(shown.round),
         "stage": stage_says(tree, shown),
         "status": "over" if shown.is_over else "open",
-        "revenue": money(shown.revenue),
+        "revenue": revenue_says(seen),
         "count": money(shown.count),
         "outlook": outlook(seen),
         "closes": closes_say(seen),

@@ -70,6 +70,8 @@ def change_says(text: str) -> str:
             return f"the time of round {number} is over"
         case ["CLOSE", number]:
             return f"round {number} is closed"
+        case ["UNVEIL", number]:
+            return f"the auction ended with round {number}, and all that was hidden is shown"
         case ["OVER", number]:
             return f"round {number} is closed, and the auction is over"
     return text

@@ -4,6 +4,7 @@ from collections.abc import Callable
 from typing import Final, NamedTuple
 
 from hpb.amounts import counted, money
+from hpb.drawing.tree import bid_of
 from hpb.lines import NodeShown, Shown, WhoShown
 from hpb.pages.view import ENDLESS, Contact, Seen, State, View
 from hpb.rules.activity import activity_needed, eligibility_left
@@ -67,11 +68,18 @@ def stage_says(tree: Tree, shown: Shown) -> str:
     return f"{shown.stage} of {len(stages)}, at {stages[shown.stage - 1]} percent"
 
 
+def revenue_says(seen: Seen) -> str:
+    """The revenue of the last close, if it is shown."""
+    return NOBODY if seen.hides_revenue else money(seen.standing.shown.revenue)
+
+
 def outlook(seen: Seen) -> str:
     """The effect of a close now, as far as it is known."""
     shown, accepted, is_exact = seen.standing.shown, seen.accepted(), seen.begin.is_exact
     if shown.is_over:
         return f"The auction ended with round {shown.round}."
+    if seen.hides_count:
+        return "How many bids and waivers this round has is shown once it is closed."
     if accepted:
         said = counted(accepted, "bid or waiver", "bids and waivers")
         return f"{'' if is_exact else 'At least '}{said} in this round: its close opens the next one."
@@ -92,10 +100,6 @@ def closes_say(seen: Seen) -> str:
     return f"By the close of round {last}:" if first == last else f"By the closes of rounds {first} to {last}:"
 
 
-def _bid_of(node: NodeShown) -> str:
-    return f"{money(node.high)} of {node.bidder}" if node.bidder else "no bid"
-
-
 def _was(then: NodeShown | None, now: NodeShown, told: Callable[[NodeShown], str]) -> str:
     """A value before the last close, if it has changed."""
     return "" if then is None or told(then) == told(now) else f"was {told(then)}"
@@ -105,14 +109,14 @@ def node_texts(seen: Seen, name: str) -> NodeTexts:
     """A node of the definition in words."""
     node = seen.standing.nodes[name]
     then = seen.before.nodes[name] if seen.before else None
-    bid_was = _was(then, node, _bid_of)
+    bid_was = _was(then, node, bid_of)
     minimum_was = _was(then, node, lambda one: money(one.minimum))
     price_was = _was(then, node, lambda one: money(one.price))
     win_was = "" if then is None or then.wins == node.wins else "new" if node.wins else "won before"
     is_changed = any((bid_was, minimum_was, price_was, win_was))
     win = _WINS if node.wins else NOBODY
     return NodeTexts(
-        _bid_of(node), bid_was, money(node.minimum), minimum_was, money(node.price), price_was, win, win_was, is_changed
+        bid_of(node), bid_was, money(node.minimum), minimum_was, money(node.price), price_was, win, win_was, is_changed
     )
 
 
@@ -128,7 +132,7 @@ def close_says(seen: Seen) -> list[str]:
     for name, node in seen.standing.nodes.items():
         then = seen.before.nodes[name]
         parts = [] if then.wins == node.wins else ["wins now" if node.wins else "no longer wins"]
-        parts += _step_says("high bid", _bid_of(then), _bid_of(node))
+        parts += _step_says("high bid", bid_of(then), bid_of(node))
         others += not parts and then.minimum != node.minimum
         if parts:
             parts += _step_says("minimum", money(then.minimum), money(node.minimum))

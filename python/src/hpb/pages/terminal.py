@@ -15,6 +15,7 @@ from hpb.pages.telling import (
     contact_says,
     node_texts,
     outlook,
+    revenue_says,
     round_says,
     stage_says,
 )
@@ -64,7 +65,7 @@ def changes(tree: Tree, old: View, new: View) -> Iterator[str]:
         return
     then, now = before.standing.shown if before else None, after.standing.shown
     if then is None or (then.round, then.is_over, then.stage) != (now.round, now.is_over, now.stage):
-        yield f"Round {now.round}, {_state_of(after)}, stage {now.stage}, revenue {money(now.revenue)}, {counted(now.count, 'command')}"
+        yield f"Round {now.round}, {_state_of(after)}, stage {now.stage}, revenue {revenue_says(after)}, {counted(now.count, 'command')}"
     if then is not None and (then.round, then.is_over) != (now.round, now.is_over):
         yield from close_says(after)
     elif then is not None and then.count != now.count:
@@ -76,7 +77,7 @@ def changes(tree: Tree, old: View, new: View) -> Iterator[str]:
 
 def _seen_lines(tree: Tree, seen: Seen, style: Style) -> Iterator[str]:
     shown = seen.standing.shown
-    summary = f"Round {shown.round}, {_state_of(seen)}. Stage {stage_says(tree, shown)}. Revenue {money(shown.revenue)}."
+    summary = f"Round {shown.round}, {_state_of(seen)}. Stage {stage_says(tree, shown)}. Revenue {revenue_says(seen)}."
     yield style.of(f"{summary} {counted(shown.count, 'command')}.", BOLD)
     yield style.of(outlook(seen), YELLOW if seen.would_end() else "")
     yield ""

@@ -40,14 +40,19 @@ class Begin(NamedTuple):
 
 
 class Seen(NamedTuple):
-    """The state of an auction. `before` is the last state seen before the last close, or None if no close was seen."""
+    """The state of an auction. `before` is the last state seen before the last close, or None if no close was seen. If a front's rules hide
+    it, the count is that of the last close, or there is no revenue."""
 
     standing: Standing
     before: Standing | None
     begin: Begin
+    hides_count: bool = False
+    hides_revenue: bool = False
 
     def accepted(self) -> int:
-        """How many bids and waivers were seen to be accepted in this round."""
+        """How many bids and waivers were seen to be accepted in this round; 0 if that is hidden."""
+        if self.hides_count:
+            return 0
         now, then = self.standing.shown, self.begin.shown
         return now.count - then.count - (now.stage - then.stage)
 
@@ -55,13 +60,13 @@ class Seen(NamedTuple):
         """Whether a close now would end the auction, or None if that can't be known."""
         if self.standing.shown.is_over or self.accepted() > 0:
             return False
-        return True if self.begin.is_exact else None
+        return True if self.begin.is_exact and not self.hides_count else None
 
     def only(self, bidders: Iterable[str]) -> "Seen":
         """The same, with these bidders only."""
         names = list(bidders)
         before = self.before and _only(self.before, names)
-        return Seen(_only(self.standing, names), before, self.begin._replace(whos=_kept(self.begin.whos, names)))
+        return self._replace(standing=_only(self.standing, names), before=before, begin=self.begin._replace(whos=_kept(self.begin.whos, names)))
 
 
 class Told(NamedTuple):
@@ -72,12 +77,14 @@ class Told(NamedTuple):
 
 
 class View(NamedTuple):
-    """Everything known. `seen` is None until the first answers, and so is `schedule` without a front. `told` has the news of each name."""
+    """Everything known. `seen` is None until the first answers, and so is `schedule` without a front. `told` has the news of each name.
+    `information` is a front's answer to `INFORMATION`, which is empty if it has no rules on that."""
 
     seen: Seen | None
     contact: Contact
     schedule: Schedule | None = None
     told: Mapping[str, Told] = {}
+    information: str = ""
 
     def only(self, bidders: Iterable[str], name: str = "") -> "View":
         """The same, with these bidders and the news of this name only."""

@@ -2,7 +2,7 @@
 import base64
 import binascii
 from _thread import LockType, allocate_lock
-from collections.abc import Mapping, Sequence
+from collections.abc import Callable, Mapping, Sequence
 from typing import Final, Protocol
 
 from hpb.pages.model import Model, model_of
@@ -15,15 +15,20 @@ from hpb.threads import Places, held_lock
 
 MOST_VIEWERS: Final = 200
 
+# Limits a view to what a viewer may know. None says that this isn't known yet.
+Limit = Callable[[View], View | None]
+
 
 class Wall:
     """The newest model for some bidders. Viewers look at it whenever they like, so nothing waits for a viewer. The model is made on
     demand.
     """
 
-    def __init__(self, tree: Tree, bidders: Sequence[str], view: View, most: int = MOST_VIEWERS, name: str | None = None) -> None:
-        """`most` is how many viewers may follow the wall at once. `name` is its owner, if it has one."""
-        self.name = name
+    def __init__(
+        self, tree: Tree, bidders: Sequence[str], view: View, most: int = MOST_VIEWERS, name: str | None = None, limit: Limit | None = None,
+    ) -> None:
+        """`most` is how many viewers may follow the wall at once. `name` is its owner, if it has one, and `limit` hides what it may not know."""
+        self.name, self._limit = name, limit
         self.page = Page(tree, bidders)
         self.viewers = Places(most)
         self._bidders = bidders
@@ -35,9 +40,13 @@ class Wall:
 
     def hang(self, view: View) -> None:
         """Replaces the current view by a newer one."""
-        own = view.only(self._bidders, self.name or "")
+        own: View | None = view.only(self._bidders, self.name or "")
+        if self._limit and own:
+            own = self._limit(own)
         self._lock.acquire()
         try:
+            if own is None or (self._limit and self._is_same(own)):
+                return
             self._said = announcement(self._view, own)
             self._view, self._model, self._number = own, None, self._number + 1
             waiting, self._waiting = self._waiting, []
@@ -83,6 +92,10 @@ class Wall:
             self._waiting = [one for one in self._waiting if one is not hung]
         finally:
             self._lock.release()
+
+    def _is_same(self, own: View) -> bool:
+        """Whether a view shows nothing new. An event about it would say that something happened that its viewers may not know."""
+        return not announcement(self._view, own) and model_of(self.page.tree, self._bidders, own) == self._made()
 
     def _made(self) -> Model:
         if self._model is None:

@@ -1,4 +1,4 @@
-"""The round clock and the news in a record: entries of the kinds `clock`, `said` and `read` (docs/FRONT.md).
+"""The round clock, the news and the veil in a record: entries of the kinds `clock`, `said`, `read`, `met` and `unveiled` (docs/FRONT.md).
 
 An entry `clock` has the whole state of the round clock after a change, so the last one is enough to go on. News are for
 everybody or for one name: each has a number, and stands in the entry of its change.
@@ -9,6 +9,8 @@ from hpb.record.entries import Entry
 
 ALL = "all"
 CLOCK, SAID, READ = "clock", "said", "read"
+# The order of first high bids, from which pseudonyms follow; and that all is unveiled.
+MET, UNVEILED = "met", "unveiled"
 # So many news are kept for those who ask.
 MOST_NEWS = 200
 # The fields of the clock's state in an entry; besides them it has `what` happened, and the number of its news as `news`.
@@ -32,6 +34,8 @@ def news_of(entry: Entry) -> News | None:
         return None
     if entry["kind"] == SAID:
         return News(entry["news"], entry["time"], entry["to"], f"SAY {entry['to']} {entry['text']}")
+    if entry["kind"] == UNVEILED:
+        return News(entry["news"], entry["time"], ALL, f"UNVEIL {entry['round']}")
     return News(entry["news"], entry["time"], ALL, text_of_change(entry))
 
 

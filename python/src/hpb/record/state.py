@@ -4,7 +4,7 @@ from typing import Any
 
 from hpb.front.rights import sender_and_ticket
 from hpb.record.entries import FIRST_FORM, FORM, Damaged, Entry
-from hpb.record.news import CLOCK, MOST_NEWS, READ, SAID, STATE_FIELDS, News, news_of
+from hpb.record.news import CLOCK, MET, MOST_NEWS, READ, SAID, STATE_FIELDS, UNVEILED, News, news_of
 
 # The key for the auctioneer among the senders in a segment's first entry.
 AUCTIONEER = ""
@@ -19,7 +19,8 @@ class State:
     first form have such entries; the second form keeps these lines in the file beside the record. `lines` are the commands of the open
     round; they are None if an older program began the segment, or if commands came from elsewhere. `clock` is the state of the round clock,
     and is empty if there never was one. `news` are the last ones, `told` how many there were for all and for each name, and `read` how many
-    each name has read.
+    each name has read. `order` has the bidders in the order of their first high bids, if pseudonyms need it, and `is_unveiled` says whether
+    all was unveiled.
     """
 
     definition: Any = None
@@ -35,6 +36,8 @@ class State:
     news: list[News] = field(default_factory=list)
     told: dict[str, int] = field(default_factory=dict)
     read: dict[str, int] = field(default_factory=dict)
+    order: list[str] = field(default_factory=list)
+    is_unveiled: bool = False
     is_sealed: bool = False
 
     def take(self, entry: Entry) -> None:
@@ -54,7 +57,9 @@ class State:
             self.accept(entry["line"].encode("latin-1"))
         elif kind == "sealed":
             self.is_sealed = True
-        elif kind in (CLOCK, SAID, READ):
+        elif kind == MET:
+            self.order = list(entry["order"])
+        elif kind in (CLOCK, SAID, READ, UNVEILED):
             self.take_of_rounds(entry)
         if "asked" in entry:
             self.open.pop(entry["asked"], None)
@@ -74,6 +79,8 @@ class State:
             self.clock = {name: entry[name] for name in STATE_FIELDS}
         elif entry["kind"] == READ:
             self.read[entry["name"]] = entry["upto"]
+        elif entry["kind"] == UNVEILED:
+            self.is_unveiled = True
         if news := news_of(entry):
             self.news = [*self.news, news][-MOST_NEWS:]
             self.told[news.to] = self.told.get(news.to, 0) + 1
@@ -96,11 +103,14 @@ class State:
             rounds = head.get("rounds", {"clock": {}, "news": [], "told": {}, "read": {}})
             self.clock, self.told, self.read = rounds["clock"], dict(rounds["told"]), dict(rounds["read"])
             self.news = [News(*news) for news in rounds["news"]]
+            veil = head.get("information", {"order": [], "unveiled": False})
+            self.order, self.is_unveiled = list(veil["order"]), veil["unveiled"]
 
     def head(self) -> Entry:
         """The state as the first entry of the next segment has it."""
         lines = {} if self.lines is None else {"lines": [line.decode("latin-1") for line in self.lines]}
         rounds = {"clock": self.clock, "news": [list(news[:4]) for news in self.news], "told": dict(self.told), "read": dict(self.read)}
+        veil = {"order": list(self.order), "unveiled": self.is_unveiled}
         return {
             "names": self.names,
             "count": self.count,
@@ -109,4 +119,5 @@ class State:
             "open": [[number, name, line.decode("latin-1")] for number, (name, line) in self.open.items()],
             **lines,
             **({"rounds": rounds} if any(rounds.values()) else {}),
+            **({"information": veil} if any(veil.values()) else {}),
         }

@@ -75,13 +75,15 @@ def read_standing(line: str) -> Shown | NodeShown | WhoShown | None:
     return answer
 
 
-def look_whose(tree: Tree, told: Told) -> None:
-    """Returns if the answers may be those of an auction with this definition. Otherwise raises `NotTold`."""
+def look_whose(tree: Tree, told: Told, has_pseudonyms: bool = False) -> None:
+    """Returns if the answers may be those of an auction with this definition. Otherwise raises `NotTold`. Pseudonyms are names of high
+    bidders that the definition lacks.
+    """
     for name, node in told.nodes.items():
         least = minimum(tree, name, node.price)
         if node.minimum != least:
             raise NotTold(f"another definition: the minimum of {name} is {node.minimum:,}, and by this one {least:,}")
-        if node.bidder is not None and node.bidder not in tree.bidders:
+        if node.bidder is not None and node.bidder not in tree.bidders and not has_pseudonyms:
             raise NotTold(f"another definition: it has no bidder {node.bidder}")
     for name, who in told.whos.items():
         if name not in tree.bidders:

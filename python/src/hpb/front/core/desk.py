@@ -1,10 +1,10 @@
 """The lines that a front answers by itself: those of the round clock, announcements, and what a close would do (docs/ROUNDS.md)."""
-from hpb.front.core import news, rounds
+from hpb.front.core import news, rounds, veil
 from hpb.front.core.clock import At, Why
 from hpb.front.core.information import seen_by
 from hpb.front.core.state import Front, Item
 from hpb.front.core.stepping import Step
-from hpb.front.rights import CLOCK, CLOSED, END, FORM, NOT_KNOWN, ROUND, SECOND, WHOLE, for_server, is_close, refused, sender_and_ticket
+from hpb.front.rights import CLOCK, CLOSED, END, FORM, NOT_KNOWN, ROUND, RUNNING, SECOND, WHOLE, for_server, is_close, refused, sender_and_ticket
 from hpb.front.times import NoTime, read_time, text_of_time
 from hpb.record.entries import text_of
 from hpb.record.news import ALL
@@ -39,6 +39,10 @@ def answered(step: Step, name: str, line: bytes) -> bytes:
             return preview(step, name, bidder)
         case ["AGREE", ticket]:
             return agree(step, name, number_in(ticket))
+        case ["INFORMATION"]:
+            return veil.information_line(step.front, name)
+        case ["UNVEIL"]:
+            return unveil(step, name)
         case ["SAY", to, *_] if to == ALL or to in step.front.setting.roles:
             news.say(step, name, to, text_of(line).split(" ", 2)[2], rounds.wall_of(step.front))
         case ["OPEN", number, "UNTIL", time]:
@@ -177,11 +181,18 @@ def preview(step: Step, name: str, bidder: list[str]) -> bytes:
     """What a close would do now: in sum, or to one bidder."""
     step.set(books=step.front.books.read_up())
     found = step.front.books.preview()
-    if found is None or not seen_by(name, step.front.setting.roles[name], found):
+    if found is None or not seen_by(step.front.viewer(name), found):
         raise No(NOT_KNOWN)
     if bidder and bidder[0] not in found.bidders:
         raise No(NOT_KNOWN)
     return (prospect_line(found, bidder[0]) if bidder else sum_line(found)).encode()
+
+
+def unveil(step: Step, name: str) -> bytes:
+    """The auction is over, and from now on names may know more."""
+    if not step.front.rounds.is_over:
+        raise No(RUNNING)
+    return veil.unveil(step, name)
 
 
 def sum_line(found: Preview) -> str:

@@ -140,7 +140,8 @@ class Left:
 @dataclass(frozen=True, slots=True)
 class RecordOpened:
     """The record is open, and this is its state. `left` are the commands without an answer, in the record and beside it. `lines` are the
-    commands of the open round, if they are known. `clock` is the last state of the round clock, if there was one."""
+    commands of the open round, if they are known. `clock` is the last state of the round clock, if there was one. `order` has the bidders in
+    the order of their first high bids, as far as pseudonyms need it, and `is_unveiled` says whether all was unveiled."""
 
     count: int
     used: Mapping[str | None, int]
@@ -152,6 +153,8 @@ class RecordOpened:
     news: tuple[News, ...] = ()
     told: Mapping[str, int] = field(default_factory=dict)
     read: Mapping[str, int] = field(default_factory=dict)
+    order: tuple[str, ...] = ()
+    is_unveiled: bool = False
 
 
 @dataclass(frozen=True, slots=True)

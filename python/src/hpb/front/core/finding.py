@@ -2,7 +2,7 @@
 record before anybody is let in."""
 from typing import Any
 
-from hpb.front.core import matching, news, rounds, sessions
+from hpb.front.core import matching, news, rounds, sessions, veil
 from hpb.front.core.books import books_of
 from hpb.front.core.effects import Admit, EmptyBeside, Publish, StartBoard, Wake
 from hpb.front.core.events import Left, RecordOpened
@@ -10,7 +10,7 @@ from hpb.front.core.ledger import WHERE_THE_AUDIT_ENDS, Foreign, Held
 from hpb.front.core.state import Finding, For, Phase
 from hpb.front.core.stepping import Step
 from hpb.front.core.values import changed
-from hpb.front.rights import sender_and_ticket
+from hpb.front.rights import is_close, sender_and_ticket
 from hpb.record.entries import Entry, text_of
 from hpb.rules.told import NotTold, read_told
 
@@ -26,6 +26,7 @@ def begin(step: Step, event: RecordOpened) -> None:
     step.set(phase=Phase.ASKING, finding=Finding(asked, (), event.used, event.foreign, left=left))
     step.set_ledger(count=event.count, place=event.place)
     step.set(books=books_of(event.lines), **news.restored(event.news, event.told, event.read))
+    veil.begin(step, event)
     rounds.change(step, is_on=step.front.setting.plan is not None or bool(event.clock), saved=event.clock)
     sessions.tell(step, FIRST, asked[0], For.START)
 
@@ -125,12 +126,14 @@ def note(step: Step) -> None:
         step.write(kind, **fields)
     held = {number: Held(0, left.name, left.line, asked=left.asked) for number, left in finding.found.items()}
     step.set_ledger(held=held)
+    told = read_told(tree, finding.answers)
+    veil.look(step, told, sum(is_close(left.line) for left in finding.found.values()))
     sessions.release(step)
     if (count := sum(finding.used.values())) > step.front.ledger.count:
         sessions.note_foreign(step, Foreign(step.front.ledger.count + 1, count))
     # From here on the ledger knows the senders of all commands in the file.
     step.set_ledger(used=finding.used, has_strangers=False)
-    step.set(books=step.front.books.began(tree, read_told(tree, finding.answers)))
+    step.set(books=step.front.books.began(tree, told))
     step.set(phase=Phase.NOTING)
     go_on(step)
 

@@ -25,17 +25,17 @@ def add_news(step: Step, kind: str, fields: Entry) -> Entry:
 
 def seen(front: Front, name: str) -> Iterator[tuple[int, News]]:
     """The kept news that a name may know, each with the name's own number of it, the last one first."""
-    role, number = front.setting.roles[name], last_of(front, name)
+    viewer, number = front.viewer(name), last_of(front, name)
     for one in reversed(front.news):
-        if seen_by(name, role, one):
+        if seen_by(viewer, one):
             yield number, one
             number -= 1
 
 
 def last_of(front: Front, name: str) -> int:
     """How many news there were that a name may know."""
-    role = front.setting.roles[name]
-    return sum(count for to, count in front.told.items() if seen_by(name, role, News(0, "", to, "")))
+    viewer = front.viewer(name)
+    return sum(count for to, count in front.told.items() if seen_by(viewer, News(0, "", to, "")))
 
 
 def say(step: Step, name: str, to: str, text: str, now: float) -> None:

@@ -8,7 +8,7 @@ the clock waits for all commands that were taken in its round; later ones are re
 """
 from collections.abc import Callable, Iterable
 
-from hpb.front.core import clients, desk, news, rounds
+from hpb.front.core import clients, desk, news, rounds, veil
 from hpb.front.core.clock import At
 from hpb.front.core.effects import AnswerBoard, FreeBeside, Publish, PutBeside, Tell, Wake
 from hpb.front.core.ledger import WHERE_THE_AUDIT_ENDS, Foreign, Held
@@ -192,6 +192,7 @@ def take_answer(step: Step, place: int, answer: bytes) -> None:
     if session.purpose == For.BOARD:
         (number, _), *others = step.front.questions
         step.set(questions=tuple(others))
+        veil.hear(step, answer)
         step.do(AnswerBoard(number, answer))
         free(step, place)
         ask_for_board(step)
@@ -230,6 +231,7 @@ def release(step: Step) -> None:
         step.set(ledger=step.front.ledger.accept().use(found.line))
         step.do(found.entry(step.front.ledger.count))
         rounds.took(step, found.line)
+        veil.took(step, found.line)
         if found.session is not None:
             step.set_session(found.session, entry=step.front.ledger.written)
 
@@ -248,10 +250,13 @@ def leave(step: Step, place: int) -> None:
     session, ledger = step.front.sessions[place], step.front.ledger
     if session.entry is None or session.entry > ledger.synced:
         return
+    answer = veil.answer_to(step, session) if session.item else b""
+    if answer is None:
+        return
     if session.beside is not None:
         step.set_ledger(free=(*ledger.free, session.beside))
     if session.item:
-        clients.answer(step, session.item.connection, session.answer)
+        clients.answer(step, session.item.connection, answer)
     free(step, place)
     if is_close(session.line) and number_of(session.answer):
         tell(step, place, b"SHOW", For.CLOSE)
@@ -310,4 +315,6 @@ def own_answer(step: Step, line: bytes) -> bytes:
             return news.next_line(step.front, name, int(number), step.front.ledger.synced)
         case ["READ", name]:
             return b"READ %d" % step.front.read.get(name, 0)
+        case ["INFORMATION"] if step.front.setting.information:
+            return veil.facts_line(step.front)
     return refused("line") if is_own(line) else b""

@@ -6,7 +6,9 @@ from dataclasses import dataclass, field
 from hpb.front.core.books import Books
 from hpb.front.core.clock import Closing, Plan, Rounds
 from hpb.front.core.events import Left
+from hpb.front.core.information import Information, Veil, Viewer, prefix_for, viewer_of
 from hpb.front.core.ledger import Ledger
+from hpb.front.core.values import changed
 from hpb.front.limits import BURST_SECONDS, Limits
 from hpb.front.rights import AUCTIONEER, Role
 from hpb.front.tokens import Token, Tokens
@@ -41,7 +43,7 @@ class Phase(enum.IntEnum):
 class Setting:
     """The parts of a front that stay the same while it runs. `sessions` counts those of names; a board has one more. `record` is the name
     of the record's file. `starts_server` says whether the front starts the server itself. `plan` is that of the rounds, if they keep
-    time."""
+    time. `information` has the rules on what names may know, if there are any."""
 
     tree: Tree
     roles: Mapping[str, Role]
@@ -53,12 +55,15 @@ class Setting:
     address: str = ""
     plan: Plan | None = None
     closing: Closing = Closing()
+    information: Information | None = None
 
-    # The auctioneer's name.
+    # The auctioneer's name, and how pseudonyms begin.
     desk: str = field(init=False)
+    prefix: str = field(init=False)
 
     def __post_init__(self) -> None:
         object.__setattr__(self, "desk", next(name for name, role in self.roles.items() if role.kind == AUCTIONEER))
+        object.__setattr__(self, "prefix", prefix_for(self.tree.bidders))
 
 
 class Going(enum.Enum):
@@ -219,11 +224,22 @@ class Front:
     news: tuple[News, ...] = ()
     told: Mapping[str, int] = field(default_factory=dict)
     read: Mapping[str, int] = field(default_factory=dict)
+    veil: Veil = Veil()
 
     @property
     def waiting(self) -> int:
         """How many lines of welcomed connections have no answer yet."""
         return sum(self.connections[one].waiting for name in self.names.values() for one in name.connections)
+
+    def viewer(self, name: str) -> Viewer:
+        """The viewer of a name, with its rights now."""
+        setting = self.setting
+        return viewer_of(setting.information, changed(self.veil, is_lifted=self.is_unveiled), name, setting.roles[name], setting.prefix)
+
+    @property
+    def is_unveiled(self) -> bool:
+        """Whether the record has on its disk that all is unveiled."""
+        return self.veil.is_lifted and self.veil.entry <= self.ledger.synced
 
 
 def new_front(setting: Setting, limits: Limits, tokens: Tokens, clock: float) -> Front:
