@@ -40,6 +40,8 @@ BUILT = TOP / "crates" / "hpb" / "out" / "hpb"
 MEMORY = Path("/dev/shm")
 REACHABLE = 0o711
 PROGRAMS = pytest.StashKey[tuple[list[Path], list[Path]]]()
+# The marks of tests that may be left out even with `--complete`.
+MAY_BE_LEFT_OUT = ("long", "busy", "by_libc")
 # The folders and modules whose tests look at the program alone, and not at front and tools.
 OF_THE_PROGRAM = ("calls", "failing", "outside", "protocol", "test_stack.py")
 
@@ -115,7 +117,7 @@ def pytest_runtest_makereport(item: pytest.Item) -> Generator[None, Any, None]:
     """With `--complete` a test that is left out has failed, unless it is one of those that may be."""
     outcome = yield
     report = outcome.get_result()
-    may_be = any(item.get_closest_marker(name) for name in ("long", "busy"))
+    may_be = any(item.get_closest_marker(name) for name in MAY_BE_LEFT_OUT)
     if report.skipped and item.config.getoption("--complete") and not may_be:
         report.outcome, report.longrepr = "failed", f"it was left out: {report.longrepr}"
 

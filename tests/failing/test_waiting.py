@@ -92,17 +92,20 @@ def sleepless(paged: Trial) -> Trial:
     return paged.begin()
 
 
+@pytest.mark.by_libc
 def test_refusals_that_wake_nobody_are_found(sleepless: Trial) -> None:
     """From some moment on, no thread is woken by another one."""
     with pytest.raises(AssertionError, match="refusals"):
         refuses_sleepers(sleepless, Rule(Call.WAKE, Way.LEFT_OUT, 5, EVER))
 
 
+@pytest.mark.by_libc
 def test_a_halt_that_wakes_nobody_is_found(sleepless: Trial) -> None:
     with pytest.raises(AssertionError, match="a write that fails"):
         halts_sleepers(sleepless, Way.LEFT_OUT)
 
 
+@pytest.mark.by_libc
 def test_a_failure_that_wakes_nobody_is_found(sleepless: Trial) -> None:
     with pytest.raises(AssertionError, match="a call of the disk of"):
         tells_at_once(sleepless, Way.LEFT_OUT)
