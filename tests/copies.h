@@ -1,10 +1,11 @@
 /* Copies of a program of Python that share its imports, for `faults.c`: at its function `main` the process waits for messages, and copies of it
  * go on from there.
  *
- *   FAULT_COPIES  The number of a socket (SOCK_SEQPACKET). If it is closed at the other end the process ends, with its last copy.
+ *   FAULT_COPIES  The number of a socket (SOCK_SEQPACKET). If it is closed at the other end the process ends. Copies that still run are killed.
  *
- * The message "begin 1 2\nFOLDER" comes with two descriptors. A copy goes on in that folder, has these descriptors under the numbers 1 and 2,
- * and the answer is its number. The message "end NUMBER" asks whether that copy has ended. The answer is -1, or its status of wait(2).
+ * The message "begin 7 1 2\nFOLDER" comes with two descriptors. A copy goes on in that folder and in lane 7 of the sweep, has these descriptors
+ * under the numbers 1 and 2, and the answer is its number. The message "end NUMBER" asks whether that copy has ended. The answer is -1, or its
+ * status of wait(2).
  */
 #include <poll.h>
 #include <signal.h>
@@ -12,10 +13,17 @@
 #include <sys/socket.h>
 #include <sys/wait.h>
 
-enum { MOST_MESSAGE = 4096, MOST_DESCRIPTORS = 8, MOST_ENDED = 64, SPARE = 100 };
+enum { MOST_MESSAGE = 4096, MOST_DESCRIPTORS = 8, MOST_ENDED = 1024, MOST_COPIES = 64, SPARE = 100 };
 
 static struct { int number, status; } ended[MOST_ENDED];
-static int ended_count, last_copy;
+static int ended_count, copies[MOST_COPIES];
+static void take_lane(int number);
+
+/* Forgets the status of a process whose number is that of a new copy now. */
+static void forget(int number) {
+    for (int i = 0; i < MOST_ENDED; i++)
+        if (ended[i].number == number) ended[i].number = 0;
+}
 
 /* Takes the statuses of all processes that have ended, among them those that a copy has left behind. */
 static int status_of(int number) {
@@ -67,19 +75,24 @@ static void make_copies(int socket) {
         long length = recvmsg(socket, &message, 0);
         if (length < 0 && errno == EINTR) continue;
         if (length <= 0) {
-            if (last_copy && status_of(last_copy) < 0) kill(last_copy, SIGKILL);
+            for (int i = 0; i < MOST_COPIES; i++)
+                if (copies[i] && status_of(copies[i]) < 0) kill(copies[i], SIGKILL);
             syscall(SYS_exit_group, 0);
         }
         text[length] = 0;
         int answer;
         if (!strncmp(text, "begin", 5)) {
-            last_copy = answer = (int)real[CALL_fork](0, 0, 0, 0, 0, 0, 0);
+            char *words = text + 5;
+            int number = strtol(words, &words, 10);
+            copies[number] = answer = (int)real[CALL_fork](0, 0, 0, 0, 0, 0, 0);
             if (!answer) {
-                const char *folder = take_descriptors(&message, text + 5);
+                const char *folder = take_descriptors(&message, words);
                 if (chdir(folder)) abort();
+                take_lane(number);
                 syscall(SYS_close, socket);
                 return;
             }
+            forget(answer);
             drop_descriptors(&message);
         } else {
             answer = status_of(atoi(text + 4));

@@ -139,11 +139,20 @@ static long refused(int which, long a) {
     return is_pointer(which) ? 0 : -1;
 }
 
+/* Makes a call. If it starts a thread, the thread gets to know how it came to be. */
+static long made(int which, long a, long b, long c, long d, long e, long f, long g) {
+    if (which == CALL_pthread_create && sweep) {
+        d = (long)new_birth((void *(*)(void *))c, (void *)d);
+        c = (long)be_born;
+    }
+    return real[which](a, b, c, d, e, f, g);
+}
+
 #define WRAPPED(name) \
     __attribute__((visibility("default"))) long wrapped_##name(long a, long b, long c, long d, long e, long f, long g) __asm__(#name); \
     long wrapped_##name(long a, long b, long c, long d, long e, long f, long g) { \
         if (fails(CALL_##name, a, b, __builtin_return_address(0))) return refused(CALL_##name, a); \
-        return real[CALL_##name](a, b, c, d, e, f, g); \
+        return made(CALL_##name, a, b, c, d, e, f, g); \
     }
 #undef fork
 CALLS(WRAPPED)

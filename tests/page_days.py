@@ -18,7 +18,7 @@ from boards import Site
 from fronts import Front, token_of
 from harness.programs import Program, shown
 from harness.serving import ADDRESS, read_line, wait_until
-from sites import Copy, Nursery, Sweep
+from sites import Copy, Lane, Nursery
 from sweeping import DEFINITION, LIBRARIES
 
 from hpb.front.given import in_memory, written
@@ -36,9 +36,9 @@ LISTENER, GIVEN = 10, 11
 class PageDay:
     """A page of an auction in memory. `count` is how many commands it has."""
 
-    def __init__(self, nursery: Nursery, sweep: Sweep, program: Program, folder: Path) -> None:
+    def __init__(self, nursery: Nursery, lane: Lane, program: Program, folder: Path) -> None:
         folder.mkdir()
-        self.nursery, self.sweep, self.folder, self.count = nursery, sweep, folder, 0
+        self.nursery, self.lane, self.folder, self.count = nursery, lane, folder, 0
         front = Front(program, folder, has_board=True)
         assert program.format(front.file, text=DEFINITION).status == 0
         self.given = written(*read_terms(str(front.config)))
@@ -64,7 +64,7 @@ class PageDay:
         given = in_memory(self.given)
         with its, open(given, "rb"):
             self.copy = self.nursery.begin(
-                self.folder, self.errors.fileno(), n0=its.fileno(), n10=self.listener.fileno(), n11=given
+                self.lane, self.folder, self.errors.fileno(), n0=its.fileno(), n10=self.listener.fileno(), n11=given
             )
         line = read_line(cast("subprocess.Popen[bytes]", self.copy), START_SECONDS)
         if line.startswith("BOARD "):
@@ -77,14 +77,14 @@ class PageDay:
         assert self.copy
         status = self.copy.wait(END_SECONDS)
         said = self.said()
-        crashed = status == -signal.SIGSEGV and "Fatal Python error" in said and any(f" {name}" in self.sweep.last() for name in LIBRARIES)
+        crashed = status == -signal.SIGSEGV and "Fatal Python error" in said and any(f" {name}" in self.lane.last() for name in LIBRARIES)
         assert status in (1, 2) or crashed, f"the page ended with {status}"
 
     def go_on(self) -> None:
         """Starts the page again if it has ended."""
         if self.copy and self.copy.poll() is not None:
             self.look_at_end()
-            self.sweep.disarm()
+            self.lane.disarm()
             assert self.start()
 
     def stop(self) -> None:
@@ -158,9 +158,9 @@ class PageDay:
     def begin_with_faults(self) -> Iterator[bool]:
         """While it starts. If it came up, it shows the auction."""
         while True:
-            self.sweep.arm()
+            self.lane.arm()
             is_up = self.start()
-            has_failed = self.sweep.disarm()
+            has_failed = self.lane.disarm()
             assert is_up or has_failed, "the page doesn't come up"
             if is_up:
                 self.look()
@@ -173,9 +173,9 @@ class PageDay:
         assert self.start()
         for step in (self.look, self.change, self.look, self.change, self.look):
             while True:
-                self.sweep.arm()
+                self.lane.arm()
                 step()
-                if not self.sweep.disarm():
+                if not self.lane.disarm():
                     break
                 yield True
 
@@ -184,9 +184,9 @@ class PageDay:
         while True:
             assert self.start() and self.mine and self.copy
             self.change()
-            self.sweep.arm()
+            self.lane.arm()
             self.mine.shutdown(socket.SHUT_RDWR)
             self.look_at_end()
-            if not self.sweep.disarm():
+            if not self.lane.disarm():
                 return
             yield True

@@ -1,25 +1,33 @@
-/* Call sites of a program of Python 3.11, for `faults.c`: a call is known by its kind, by the functions of C from it up to the interpreter,
- * and by the Python frames from there up to the package's own code. So the same call is the same site each time it is made, and in each
- * process.
+/* Call sites of a program of Python 3.11, for `faults.c`: a call is known by its kind, by its thread, by the functions of C from it up to the
+ * interpreter, and by the Python frames from there up to the package's own code. So the same call is the same site each time it is made, and
+ * in each process. A thread is known by the places of the package that led to its start.
  *
- *   FAULT_SITES  A file with a `struct sweep`, made beforehand, which the tests share with the process while it runs. If its state is
- *                ARMED, the next call fails whose site and error weren't tried before, and the state is FAILED then.
+ *   FAULT_SITES  A file with a `struct sweep`, made beforehand, which the tests share with processes while they run. Each process has a lane
+ *                of it, which is the first one unless `copies.h` names another. If the lane's state is ARMED, the next call fails whose site
+ *                and error weren't tried before in any lane, and the state is FAILED then.
  */
 #include <stdio.h>
 #include <unwind.h>
 
-enum { MOST_ERRORS = 4, MOST_TRIED = 1 << 17, MOST_DONE = 1 << 20, MOST_CODES = 1 << 12, MOST_WORDS = 64, MOST_TEXT = 2048, MOST_C = 24, MOST_PYTHON = 64, OPTIMIZED = 1 };
+enum { MOST_ERRORS = 4, MOST_TRIED = 1 << 17, MOST_DONE = 1 << 20, MOST_CODES = 1 << 12, MOST_WORDS = 64, MOST_TEXT = 2048, MOST_C = 24, MOST_PYTHON = 64, MOST_LANES = 64, MOST_ONLY = 64, MOST_BIRTH = 4, OPTIMIZED = 1 };
 enum { AT_REST, ARMED, FAILED, COUNTING };
 
-struct sweep {
+/* The faults of one process after the other: how many, and the key and place of the last one. */
+struct lane {
     _Atomic uint32_t state;
-    /* Of all sites those are tried whose key leaves the rest `part` if it is divided by `parts`. With `only` it is one site alone. */
-    uint32_t parts, part, unused;
-    uint64_t only, key;
+    uint32_t unused;
+    uint64_t key;
     _Atomic uint64_t failed;
-    /* The errors by which each call may fail, ended by 0; and the place of the last one that failed. */
-    int32_t errors[COUNT][MOST_ERRORS];
     char text[MOST_TEXT];
+};
+
+struct sweep {
+    struct lane lanes[MOST_LANES];
+    /* Of all sites those are tried whose key leaves the rest `part` if it is divided by `parts`. If `only` has any, it is those alone. */
+    uint32_t parts, part;
+    uint64_t only[MOST_ONLY];
+    /* The errors by which each call may fail, ended by 0. */
+    int32_t errors[COUNT][MOST_ERRORS];
     _Atomic uint64_t tried[MOST_TRIED];
     /* Places, as their addresses tell them, at which nothing is left to try. Copies of a process have the same addresses. */
     _Atomic uint64_t done[MOST_DONE];
@@ -40,7 +48,17 @@ struct site {
     uintptr_t end;
 };
 
+/* How a thread came to be: what it runs, and the functions of the package that led to its start, the innermost first. */
+struct birth {
+    void *(*run)(void *);
+    void *argument;
+    uint64_t key;
+    struct { const struct code *code; long instruction; } places[MOST_BIRTH];
+};
+
 static struct sweep *sweep;
+static struct lane *lane;
+static __thread struct birth *birth;
 static struct thread *(*this_thread)(void);
 /* The addresses of Python's own code. */
 static uintptr_t first_code, last_code;
@@ -64,6 +82,37 @@ static int is_own(const struct frame *frame) {
     return known[place].is_own;
 }
 
+/* The same in each process. */
+static uint64_t mixed_with(uint64_t key, const struct frame *frame) {
+    const struct text *file = frame->code->file;
+    long from = file->length > 24 ? file->length - 24 : 0;
+    for (long i = from; i < file->length; i++) key = mixed(key, file->bytes[i]);
+    key = mixed(key, frame->code->first_line);
+    return mixed(key, frame->instruction - frame->code->instructions);
+}
+
+static void *be_born(void *made) {
+    birth = made;
+    return birth->run(birth->argument);
+}
+
+/* The birth of a thread that this one starts. It is never freed. */
+static struct birth *new_birth(void *(*run)(void *), void *argument) {
+    struct thread *thread = this_thread ? this_thread() : NULL;
+    struct frame *frame = thread && thread->entry ? thread->entry->frame : NULL;
+    struct birth *made = (void *)real[CALL_mmap](0, sizeof *made, PROT_READ | PROT_WRITE, MAP_PRIVATE | MAP_ANONYMOUS, -1, 0, 0);
+    if (made == MAP_FAILED) abort();
+    *made = (struct birth){ .run = run, .argument = argument, .key = birth ? birth->key : 3 };
+    for (int count = 0; frame; frame = frame->previous) {
+        if (!is_own(frame)) continue;
+        made->key = mixed_with(made->key, frame);
+        if (count == MOST_BIRTH) continue;
+        made->places[count].code = frame->code;
+        made->places[count++].instruction = frame->instruction - frame->code->instructions;
+    }
+    return made;
+}
+
 static _Unwind_Reason_Code take_c(struct _Unwind_Context *context, void *argument) {
     struct site *site = argument;
     if (site->c_count == MOST_C || (site->end && _Unwind_GetCFA(context) > site->end)) return _URC_END_OF_STACK;
@@ -76,7 +125,7 @@ static _Unwind_Reason_Code take_c(struct _Unwind_Context *context, void *argumen
  */
 static uint64_t place_of(int which, struct thread *thread, const void *caller) {
     struct frame *frame = thread && thread->entry ? thread->entry->frame : NULL;
-    uint64_t place = mixed(mixed(2, which), (uintptr_t)caller);
+    uint64_t place = mixed(mixed(birth ? birth->key : 2, which), (uintptr_t)caller);
     const uintptr_t *stack = __builtin_frame_address(0);
     for (int i = 0; i < MOST_WORDS && frame && stack + i < (uintptr_t *)thread->entry; i++)
         if (stack[i] >= first_code && stack[i] < last_code) place = mixed(place, stack[i] + i);
@@ -112,13 +161,9 @@ static int is_done(uint64_t place) {
 /* The site of a call that this thread makes now. */
 static void look_at_site(struct site *site, int which, struct thread *thread) {
     struct frame *frame = thread && thread->entry ? thread->entry->frame : NULL;
-    *site = (struct site){ .key = mixed(1, which), .end = frame ? (uintptr_t)thread->entry : 0 };
+    *site = (struct site){ .key = mixed(birth ? birth->key : 1, which), .end = frame ? (uintptr_t)thread->entry : 0 };
     for (; frame && site->python_count < MOST_PYTHON; frame = frame->previous) {
-        const struct text *file = frame->code->file;
-        long from = file->length > 24 ? file->length - 24 : 0;
-        for (long i = from; i < file->length; i++) site->key = mixed(site->key, file->bytes[i]);
-        site->key = mixed(site->key, frame->code->first_line);
-        site->key = mixed(site->key, frame->instruction - frame->code->instructions);
+        site->key = mixed_with(site->key, frame);
         site->python[site->python_count++] = frame;
         if (is_own(frame)) break;
     }
@@ -129,25 +174,48 @@ static void look_at_site(struct site *site, int which, struct thread *thread) {
     }
 }
 
+static char *tell_place(char *text, const char *end, const char *before, const struct code *code, long instruction) {
+    if (end - text < 500) return text;
+    return text + snprintf(text, end - text, "\n%s%.300s %.80s %d %ld", before, code->file->bytes, code->name->bytes, code->first_line, instruction);
+}
+
 /* Writes a site as a text: the call, the functions of C, and the frames of Python with file, function, first line and instruction. */
 static void tell_site(const struct site *site, const char *call, int error) {
-    char *text = sweep->text, *end = text + MOST_TEXT;
+    char *text = lane->text, *end = text + MOST_TEXT;
     text += snprintf(text, end - text, "%s fails by %d;", call, error);
     for (int i = 0; i < site->c_count && end - text > 100; i++) {
         Dl_info info;
         if (dladdr(site->c[i], &info) && info.dli_sname) text += snprintf(text, end - text, " %.60s", info.dli_sname);
     }
-    for (int i = 0; i < site->python_count && end - text > 500; i++) {
+    for (int i = 0; i < site->python_count; i++) {
         const struct frame *frame = site->python[i];
-        const struct code *code = frame->code;
-        text += snprintf(text, end - text, "\n%.300s %.80s %d %ld", code->file->bytes, code->name->bytes, code->first_line,
-                         (long)(frame->instruction - code->instructions));
+        text = tell_place(text, end, "", frame->code, frame->instruction - frame->code->instructions);
     }
+    for (int i = 0; birth && i < MOST_BIRTH && birth->places[i].code; i++)
+        text = tell_place(text, end, "begun by ", birth->places[i].code, birth->places[i].instruction);
+}
+
+/* Whether a key is one of those that are to be tried. */
+static int is_wanted(uint64_t key) {
+    for (int i = 0; i < MOST_ONLY && sweep->only[i]; i++)
+        if (sweep->only[i] == key) return 1;
+    return !sweep->only[0] && (key >> 1) % sweep->parts == sweep->part;
+}
+
+/* Whether this call is to fail by this error, as the first one of its lane since it was armed, and in all lanes the first one with this key. If
+ * another thread of the process was first, the site is tried when it is come to again.
+ */
+static int is_taken(uint64_t key) {
+    uint32_t armed = ARMED, failed = FAILED;
+    if (!atomic_compare_exchange_strong(&lane->state, &armed, FAILED)) return 0;
+    if (was_added(key, sweep->tried, MOST_TRIED)) return 1;
+    atomic_compare_exchange_strong(&lane->state, &failed, ARMED);
+    return 0;
 }
 
 /* The error by which this call fails, or 0. */
 static int error_here(int which, const char *call, const void *caller) {
-    uint32_t state = atomic_load(&sweep->state);
+    uint32_t state = atomic_load(&lane->state);
     if ((state != ARMED && state != COUNTING) || is_looking || !sweep->errors[which][0]) return 0;
     struct thread *thread = this_thread ? this_thread() : NULL;
     uint64_t place = place_of(which, thread, caller);
@@ -158,20 +226,17 @@ static int error_here(int which, const char *call, const void *caller) {
     look_at_site(&site, which, thread);
     for (const int32_t *next = sweep->errors[which]; *next && next < sweep->errors[which] + MOST_ERRORS && !error; next++) {
         uint64_t key = mixed(site.key, *next) | 1;
-        if (sweep->only ? key != sweep->only : (key >> 1) % sweep->parts != sweep->part) continue;
+        if (!is_wanted(key)) continue;
         if (state == COUNTING) {
-            atomic_fetch_add(&sweep->failed, was_added(key, sweep->tried, MOST_TRIED));
+            atomic_fetch_add(&lane->failed, was_added(key, sweep->tried, MOST_TRIED));
             continue;
         }
         if (is_in(key, sweep->tried, MOST_TRIED)) continue;
-        /* If another thread was first, this site is tried when it is come to again. */
-        uint32_t armed = ARMED;
         is_left = 1;
-        if (atomic_compare_exchange_strong(&sweep->state, &armed, FAILED)) {
-            was_added(key, sweep->tried, MOST_TRIED);
-            sweep->key = key;
+        if (is_taken(key)) {
+            lane->key = key;
             tell_site(&site, call, *next);
-            atomic_fetch_add(&sweep->failed, 1);
+            atomic_fetch_add(&lane->failed, 1);
             error = *next;
         }
     }
@@ -183,12 +248,18 @@ static int error_here(int which, const char *call, const void *caller) {
 
 static void begin_sweep(void *room) {
     sweep = room;
+    lane = sweep->lanes;
     this_thread = (struct thread *(*)(void))dlsym(RTLD_DEFAULT, "PyGILState_GetThisThreadState");
     struct dl_find_object found;
     if (this_thread && !_dl_find_object((void *)this_thread, &found)) {
         first_code = (uintptr_t)found.dlfo_map_start;
         last_code = (uintptr_t)found.dlfo_map_end;
     }
+}
+
+static void take_lane(int number) {
+    if (number < 0 || number >= MOST_LANES) abort();
+    lane = &sweep->lanes[number];
 }
 
 /* Whether this thread is in the function `main` of the package. */

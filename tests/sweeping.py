@@ -2,6 +2,7 @@
 
 from __future__ import annotations
 
+import enum
 import os
 import shutil
 import signal
@@ -19,7 +20,7 @@ from harness.auctions import definition
 from harness.conditions import NORMAL, Conditions
 from harness.programs import Program, Ran
 from harness.serving import Client, Ended, wait_until
-from sites import Nursery, Sweep
+from sites import Lane, Nursery
 
 from hpb.record import record_entries
 from hpb.record.replay import replay
@@ -37,30 +38,39 @@ LIBRARIES = ("SSL_", "OPENSSL_", "CRYPTO_", "EVP_", "BIO_", "X509_", "ASN1_", "T
 EVERYDAY = ("warning: the certificate", "were read again", "is started again", "it is tried again", "were put into the record", "are set aside")
 
 
+class Kind(enum.IntEnum):
+    """A front with connections in clear, one with TLS, and one with a page, too."""
+
+    CLEAR = 0
+    TLS = 1
+    PAGE = 2
+
+
 class Bred(Front):
     """A front that is a copy of one that has done its imports."""
 
     nursery: Nursery
+    lane: Lane
 
     def begin(self, *words: str, **others: object) -> subprocess.Popen[bytes]:
         self.said.seek(0)
         self.said.truncate()
-        self.process = cast("subprocess.Popen[bytes]", self.nursery.begin(self.folder, self.said.fileno()))
+        self.process = cast("subprocess.Popen[bytes]", self.nursery.begin(self.lane, self.folder, self.said.fileno()))
         return self.process
 
 
-def bred(program: Program, folder: Path, nursery: Nursery, is_full: bool) -> Front:
+def bred(program: Program, folder: Path, nursery: Nursery, lane: Lane, kind: Kind) -> Front:
     """A front of a new auction, in a new folder."""
     folder.mkdir()
-    front = Bred(program, folder, has_board=is_full)
-    front.nursery = nursery
-    return prepared(front, is_full)
+    front = Bred(program, folder, has_board=kind is Kind.PAGE)
+    front.nursery, front.lane = nursery, lane
+    return prepared(front, kind)
 
 
-def prepared(front: Front, is_full: bool) -> Front:
-    """The front with its file. If it is full it has a page, and a certificate, which stands beside its folder."""
+def prepared(front: Front, kind: Kind) -> Front:
+    """The front with its file. The certificate stands beside its folder."""
     folder = front.folder
-    if is_full:
+    if kind is not Kind.CLEAR:
         for name in ("S", "K"):
             shutil.copy2(folder.with_name(name), folder)
         front.context = ssl.create_default_context(cafile=folder / "S")
@@ -72,8 +82,8 @@ def prepared(front: Front, is_full: bool) -> Front:
 class Day:
     """A front and its clients. `accepted` are the commands that were answered by OK, in the order of their numbers."""
 
-    def __init__(self, front: Front, sweep: Sweep) -> None:
-        self.front, self.sweep = front, sweep
+    def __init__(self, front: Front, lane: Lane) -> None:
+        self.front, self.lane = front, lane
         self.accepted: list[str] = []
         self.round, self.amount, self.revenue = 1, FIRST, 0
         # The faults since the record and the file were compared.
@@ -106,19 +116,19 @@ class Day:
 
     def start(self) -> None:
         """Starts it without a fault."""
-        self.sweep.disarm()
+        self.lane.disarm()
         self.front.start()
 
     def start_with_fault(self, conditions: Conditions = NORMAL) -> bool:
         """Starts it with a fault. Returns whether a call failed. Then it may have ended, and has to say why."""
-        self.sweep.arm()
+        self.lane.arm()
         try:
             self.front.start(conditions=conditions)
         except StartsNot as ended:
-            assert self.sweep.disarm(), ended
+            assert self.lane.disarm(), ended
             self.look_at_end(ended.ran)
             return True
-        return self.sweep.disarm()
+        return self.lane.disarm()
 
     def look_at_end(self, ran: Ran) -> None:
         """If a front ends by itself, it has to say why."""
@@ -126,7 +136,7 @@ class Day:
 
     def has_crashed(self, ran: Ran) -> bool:
         """Whether a library of C ended it, in whose own code memory was refused. Then Python names the place."""
-        is_of_library = any(f" {name}" in self.sweep.last() for name in LIBRARIES)
+        is_of_library = any(f" {name}" in self.lane.last() for name in LIBRARIES)
         return is_of_library and ran.status == -signal.SIGSEGV and "Fatal Python error: Segmentation fault" in ran.errors
 
     def go_on(self) -> None:

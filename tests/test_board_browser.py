@@ -43,7 +43,7 @@ def browser(room: Path, lack: Lack) -> Iterator[Driver]:
         lack("no Chromium is there, or no chromedriver")
     options: Any = ChromeOptions()
     options.binary_location = program
-    for word in ("--headless=new", "--no-sandbox", "--disable-gpu", "--no-first-run", "--hide-scrollbars", f"--user-data-dir={room / 'chromium'}"):
+    for word in ("--headless=new", "--no-sandbox", "--disable-gpu", "--no-first-run", "--hide-scrollbars", "--ignore-certificate-errors", f"--user-data-dir={room / 'chromium'}"):
         options.add_argument(word)
     options.set_capability("goog:loggingPrefs", {"browser": "ALL"})
     made = Chrome(service=Service(driver), options=options)

@@ -69,6 +69,25 @@ def test_over_tls_nobody_is_answered_in_clear(over_tls: Front) -> None:
     assert front.run().status == 2
 
 
+# A context of TLS that lacks all algorithms for its certificate, as after a lack of memory. Python loads this module at its start.
+CRIPPLED = """
+import ssl
+load = ssl.SSLContext.load_cert_chain
+def crippled(self, *words, **more):
+    load(self, *words, **more)
+    self.maximum_version = ssl.TLSVersion.TLSv1_2
+    self.set_ciphers("ECDHE-ECDSA-AES128-GCM-SHA256")
+ssl.SSLContext.load_cert_chain = crippled
+"""
+
+
+def test_a_front_with_which_no_handshake_can_be_made_says_so(over_tls: Front, room: Path) -> None:
+    """At its start, and not only to the clients."""
+    (room / "sitecustomize.py").write_text(CRIPPLED)
+    ran = over_tls.run(conditions=Conditions(environment={"PYTHONPATH": str(room)}))
+    assert (ran.output, ran.status) == ("", 2) and "front: certificate: [SSL: NO_SHARED_CIPHER]" in ran.errors, ran
+
+
 def test_a_client_of_a_token_file(over_tls: Front) -> None:
     """One that has its token alone, or the file of all with `--name`."""
     front = over_tls.start()

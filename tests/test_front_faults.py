@@ -5,8 +5,9 @@ A site is known by the code that leads to it (`sites.h`), so it is the same one 
 of a process that has done its imports. At the start and at the end of a front each fault has a front of its own. While it serves, one front
 gets many faults, one after the other: the next one comes when all went on behind the last.
 
-In the gate it is a sample by a seed; the variable SEED chooses another one, and PART one of the parts. With `--long` it is every site, in as many
-parts as there are processors.
+A front with a fault waits most of its time. So there are many side by side, each in a lane of its own, and no two try the same fault.
+
+In the gate it is a sample by a seed; the variable SEED chooses another one, and PART one of the parts. With `--long` it is every site.
 """
 
 from __future__ import annotations
@@ -14,8 +15,11 @@ from __future__ import annotations
 import errno
 import os
 import random
+import threading
 import time
 from collections.abc import Callable, Iterator, Sequence
+from dataclasses import dataclass, field
+from functools import partial
 from pathlib import Path
 
 import pytest
@@ -24,21 +28,24 @@ from fronts import Front, make_certificate
 from harness.conditions import NORMAL
 from harness.programs import Program
 from page_days import PageDay
-from sites import Nursery, Sweep
-from sweeping import Day, bred, contents, prepared, torn_front
+from sites import Lane, Nursery, Sweep
+from sweeping import Day, Kind, bred, contents, prepared, torn_front
 
 SAMPLE_SECONDS = int(os.environ.get("SAMPLE_SECONDS", 75))
 # A sample is one of so many parts of all sites.
-SAMPLE_PARTS = int(os.environ.get("SAMPLE_PARTS", 200))
+SAMPLE_PARTS = int(os.environ.get("SAMPLE_PARTS", 50))
 # The seed of the gate is the same each time, so that a change alone makes it fail.
 GATE_SEED = 12
-LONG_PARTS = 4
-# A fault of a page behind a front is the first of such a part.
-PAGE_PARTS = 40
+# So many fronts or pages run side by side.
+SAMPLE_LANES, LONG_LANES = int(os.environ.get("LANES", 7)), int(os.environ.get("LANES", 12))
+# A fault of a page behind a front is the first of such a part: so many in a sample, and in the long run.
+PAGE_PARTS, SAMPLE_PAGES, LONG_PAGES = 40, 2, 100
+# How often a long run says how far it is, in seconds.
+REPORT_SECONDS = 60
 # So many faults come to one front while it serves, before it is stopped and all it has kept is looked at.
 MOST_FAULTS = 25
-# After so many that went wrong a test ends.
-MOST_WRONG = 12
+# After so many that went wrong a sample ends, and the long run.
+MOST_WRONG, LONG_WRONG = 12, 200
 
 NETWORK = (errno.ECONNRESET, errno.ENOMEM, errno.EINTR)
 DISK = (errno.EIO, errno.ENOSPC)
@@ -55,40 +62,53 @@ ERRORS: dict[str, tuple[int, ...]] = {
 }
 
 
-class Sweeper:
-    """Days with faults, in folders of their own. `wrong` are the faults behind which something went wrong."""
+@dataclass
+class Shared:
+    """What all lanes share. `wrong` are the faults behind which something went wrong. `end` is the time at which no more are tried."""
 
-    def __init__(
-        self, program: Program, room: Path, library: Path, module: str, part: int, parts: int, end: float, source: random.Random
-    ) -> None:
-        self.source = source
-        self.program, self.room, self.library, self.end, self.count = program, room, library, end, 0
-        only = int(os.environ.get("SITE", "0"), 16)
-        self.sweep = Sweep(room / "sites", ERRORS, part, parts, only)
+    program: Program
+    room: Path
+    library: Path
+    sweep: Sweep
+    nursery: Nursery
+    end: float
+    most_wrong: int = MOST_WRONG
+    wrong: list[str] = field(default_factory=list)
+    # Phases, by their numbers, in which one lane has found nothing left to try.
+    over: set[int] = field(default_factory=set)
+
+    @classmethod
+    def of(cls, program: Program, room: Path, library: Path, module: str, part: int, parts: int, seconds: float) -> Shared:
+        """Of the sites of a front or a page one part is tried, or those alone that the variable SITE names. TRIED names a file that keeps which
+        were tried from one run to the next.
+        """
+        only = [int(key, 16) for key in os.environ.get("SITE", "").split()]
+        kept = os.environ.get("TRIED")
+        sweep = Sweep(Path(f"{kept}.{module}") if kept else room / "sites", ERRORS, part, parts, only)
         words = ["--config", "C"] if module == FRONT else ["C", "10", "11"]
-        self.nursery = Nursery(library, module, words, self.sweep)
         make_certificate(room)
-        self.day: Day | PageDay | None = None
-        self.wrong: list[str] = []
-        self.most_wrong = MOST_WRONG
-        # The faults before those of this `sweep`.
-        self.before = 0
+        return cls(program, room, library, sweep, Nursery(library, module, words, sweep), time.monotonic() + seconds)
 
-    def faults(self) -> int:
-        """How many calls have failed."""
-        return self.before + self.sweep.count()
+
+class Sweeper:
+    """Days with faults in one lane, one after the other, in folders of their own."""
+
+    def __init__(self, shared: Shared, lane: Lane) -> None:
+        self.shared, self.lane, self.count = shared, lane, 0
+        self.program, self.nursery, self.wrong = shared.program, shared.nursery, shared.wrong
+        self.day: Day | PageDay | None = None
 
     def has_time(self) -> bool:
-        return time.monotonic() < self.end and len(self.wrong) < self.most_wrong
+        return time.monotonic() < self.shared.end and len(self.wrong) < self.shared.most_wrong
 
     def folder(self) -> Path:
         self.count += 1
-        return self.room / str(self.count)
+        return self.shared.room / f"{self.lane.number}-{self.count}"
 
-    def new_day(self, is_full: bool) -> Day:
+    def new_day(self, kind: Kind) -> Day:
         """A front of its own, which isn't started."""
         self.drop()
-        self.day = made = Day(bred(self.program, self.folder(), self.nursery, is_full), self.sweep)
+        self.day = made = Day(bred(self.program, self.folder(), self.nursery, self.lane, kind), self.lane)
         return made
 
     def drop(self) -> None:
@@ -102,10 +122,11 @@ class Sweeper:
         try:
             work()
         except Exception as wrong:
-            self.sweep.disarm()
+            lane = self.day.lane if self.day else self.lane
+            lane.disarm()
             said = self.day.said() if self.day else ""
-            print(f"{wrong!r}\nbehind {self.sweep.last()}\n", flush=True)
-            self.wrong.append(f"{wrong!r}\nbehind {self.sweep.last()}\nit said {said!r}\nfaults before that: {list(faults)}")
+            self.wrong.append(f"{wrong!r}\nbehind {lane.last()}\nit said {said!r}\nfaults before that: {list(faults)}")
+            print(f"{self.wrong[-1]}\n", flush=True)
             self.drop()
             return False
         return True
@@ -132,11 +153,11 @@ class Sweeper:
 
     # While it serves.
 
-    def serve(self, is_full: bool) -> None:
+    def serve(self, kind: Kind) -> None:
         """Faults while a front serves."""
         is_done = False
         while not is_done and self.has_time():
-            day, faults = self.new_day(is_full), list[str]()
+            day, faults = self.new_day(kind), list[str]()
 
             def work() -> None:
                 nonlocal is_done
@@ -151,137 +172,158 @@ class Sweeper:
         is_done = True
         for step in day.steps():
             while self.has_time():
-                self.sweep.arm()
+                self.lane.arm()
                 step()
-                if not self.sweep.disarm():
+                if not self.lane.disarm():
                     break
                 is_done = False
-                faults.append(self.sweep.last().split(";")[0])
+                faults.append(self.lane.last().split(";")[0])
                 if len(faults) == MOST_FAULTS:
                     return False
         return is_done
 
     # The end.
 
-    def stop(self, is_full: bool) -> None:
+    def stop(self, kind: Kind) -> None:
         """Faults while a front ends."""
         has_failed = True
         while has_failed and self.has_time():
-            day = self.new_day(is_full)
+            day = self.new_day(kind)
 
             def work() -> None:
                 nonlocal has_failed
                 day.start()
                 day.hold_round()
-                self.sweep.arm()
+                self.lane.arm()
                 day.end()
-                has_failed = self.sweep.disarm()
+                has_failed = self.lane.disarm()
                 day.look_at_rest()
 
             self.look(work)
 
     # The page.
 
-    def page(self) -> None:
-        """Faults of a page: while it starts, while it is looked at, and when its front is gone. A phase is done once nothing fails in it."""
-        phases: list[Callable[[PageDay], Iterator[bool]]] = [PageDay.begin_with_faults, PageDay.serve_with_faults, PageDay.end_with_faults]
-        for phase in phases:
-            is_done = False
-            while not is_done and self.has_time():
-                self.drop()
-                self.day = day = PageDay(self.nursery, self.sweep, self.program, self.folder())
+    def page(self, phase: Callable[[PageDay], Iterator[bool]]) -> None:
+        """Faults of a page in a phase of it."""
+        is_done = False
+        while not is_done and self.has_time():
+            self.drop()
+            self.day = day = PageDay(self.nursery, self.lane, self.program, self.folder())
 
-                def work() -> None:
-                    nonlocal is_done
-                    before = self.sweep.count()
-                    is_done = all(self.has_time() for _ in phase(day)) and self.sweep.count() == before
+            def work() -> None:
+                nonlocal is_done
+                before = self.lane.count()
+                is_done = all(self.has_time() for _ in phase(day)) and self.lane.count() == before
 
-                self.look(work)
+            self.look(work)
 
-    def page_of_front(self, most: int) -> None:
-        """Faults of a page that a front has started: the front ends, or starts it again."""
+    def page_of_front(self, source: random.Random, most: int) -> int:
+        """Faults of a page that a front has started: the front ends, or starts it again. Returns how many there were."""
+        found = 0
         for _ in range(most):
             if not self.has_time():
-                return
+                break
             self.drop()
             folder = self.folder()
             folder.mkdir()
-            self.before += self.sweep.count()
-            self.sweep = Sweep(self.room / "page-sites", ERRORS, self.source.randrange(PAGE_PARTS), PAGE_PARTS)
-            day = self.day = Day(prepared(Front(self.program, folder, has_board=True), is_full=True), self.sweep)
-            conditions = NORMAL.with_library(self.library, FAULT_IN=PAGE, FAULT_FROM="", FAULT_SITES=str(self.sweep.path), PYTHONMALLOC="malloc")
+            sweep = Sweep(self.shared.room / "page-sites", ERRORS, source.randrange(PAGE_PARTS), PAGE_PARTS)
+            day = self.day = Day(prepared(Front(self.program, folder, has_board=True), Kind.PAGE), sweep.lane())
+            conditions = NORMAL.with_library(
+                self.shared.library, FAULT_IN=PAGE, FAULT_FROM="", FAULT_SITES=str(sweep.path), PYTHONMALLOC="malloc"
+            )
 
             def work() -> None:
                 day.start_with_fault(conditions)
                 day.pass_by()
 
             self.look(work)
-
-    def finish(self) -> None:
-        """Ends everything, and reports."""
-        self.drop()
-        self.nursery.end()
+            found += sweep.lane().count()
+        return found
 
 
-Sweepers = Callable[..., Sweeper]
+def phases_of(sweeper: Sweeper, module: str) -> list[Callable[[], None]]:
+    """The phases of a front or a page. Most sites of a front need no TLS, and fewer still a page, whose start takes longest. So those are tried
+    first that do without.
+    """
+    if module == PAGE:
+        return [partial(sweeper.page, phase) for phase in (PageDay.begin_with_faults, PageDay.serve_with_faults, PageDay.end_with_faults)]
+    phases: list[Callable[[], None]] = []
+    for kind in Kind:
+        phases += [partial(sweeper.begin, partial(sweeper.new_day, kind)), partial(sweeper.serve, kind), partial(sweeper.stop, kind)]
+    return [*phases, lambda: sweeper.begin(lambda: torn_front(sweeper.new_day(Kind.CLEAR)))]
+
+
+Sweeps = Callable[..., None]
 
 
 @pytest.fixture
-def sweeper(program: Program, memory: Path, library: Callable[[Path], Path]) -> Iterator[Sweepers]:
-    """Makes a sweeper: `sweeper(FRONT, part, parts, seconds, source)`."""
-    made: list[Sweeper] = []
-
-    def makes(module: str, part: int, parts: int, seconds: float, source: random.Random) -> Sweeper:
-        made.append(Sweeper(program, memory, library(SOURCE), module, part, parts, time.monotonic() + seconds, source))
-        return made[0]
-
-    yield makes
-    for one in made:
-        one.finish()
-
-
-def phases_of(sweeper: Sweeper, module: str, most: int) -> list[Callable[[], None]]:
-    """The phases of a front or a page. Most sites of a front need no page and no TLS, so those are tried first that do without. Most sites of
-    a page need no front: `most` are tried with one.
+def sweep(program: Program, memory: Path, library: Callable[[Path], Path]) -> Sweeps:
+    """Sweeps a part of the sites of a front or a page: `sweep(module, part, parts, lanes, pages, seconds, source)`. AssertionError has all that
+    went wrong.
     """
-    if module == PAGE:
-        return [sweeper.page, lambda: sweeper.page_of_front(most)]
-    return [
-        lambda: sweeper.begin(lambda: sweeper.new_day(is_full=False)),
-        lambda: sweeper.begin(lambda: torn_front(sweeper.new_day(is_full=False))),
-        lambda: sweeper.serve(is_full=False),
-        lambda: sweeper.stop(is_full=False),
-        lambda: sweeper.begin(lambda: sweeper.new_day(is_full=True)),
-        lambda: sweeper.serve(is_full=True),
-        lambda: sweeper.stop(is_full=True),
-    ]
+
+    def sweeps(module: str, part: int, parts: int, lanes: int, pages: int, seconds: float, source: random.Random, most_wrong: int) -> None:
+        shared = Shared.of(program, memory, library(SOURCE), module, part, parts, seconds)
+        shared.most_wrong = most_wrong
+        sweepers = [Sweeper(shared, shared.sweep.lane(number)) for number in range(lanes)]
+        try:
+            count = go_through(sweepers, module, is_sample=parts > 1)
+            if module == PAGE:
+                count += sweepers[0].page_of_front(source, pages)
+        finally:
+            for sweeper in sweepers:
+                sweeper.drop()
+            shared.nursery.end()
+        print(f"{count} faults, {len(shared.wrong)} of them wrong", flush=True)
+        assert not shared.wrong, f"{len(shared.wrong)} of {count} faults went wrong:\n\n" + "\n\n".join(shared.wrong)
+        assert count > 0
+
+    return sweeps
 
 
-def go_through(sweeper: Sweeper, phases: list[Callable[[], None]]) -> None:
-    """All phases. AssertionError has all that went wrong in them."""
-    for phase in phases:
-        began = time.monotonic()
-        phase()
-        print(f"{sweeper.faults()} faults after {time.monotonic() - began:.0f} s more, {len(sweeper.wrong)} of them wrong", flush=True)
-    assert not sweeper.wrong, f"{len(sweeper.wrong)} went wrong:\n\n" + "\n\n".join(sweeper.wrong)
+def go_through(sweepers: Sequence[Sweeper], module: str, is_sample: bool) -> int:
+    """All phases of all lanes side by side. Returns how many faults there were. Each lane goes through all phases. In a sample most of that
+    would be passes without a fault, so each lane begins with another phase, and leaves out those that are over.
+    """
+    began, failed = time.monotonic(), list[BaseException]()
+
+    def go(number: int, sweeper: Sweeper) -> None:
+        try:
+            phases = list(enumerate(phases_of(sweeper, module)))
+            first = number % len(phases) if is_sample else 0
+            for place, phase in phases[first:] + phases[:first]:
+                if not is_sample or place not in sweeper.shared.over:
+                    phase()
+                sweeper.shared.over.add(place)
+        except BaseException as fault:
+            failed.append(fault)
+
+    threads = [threading.Thread(target=go, args=given, daemon=True) for given in enumerate(sweepers)]
+    for thread in threads:
+        thread.start()
+    while any(thread.is_alive() for thread in threads):
+        end = time.monotonic() + REPORT_SECONDS
+        for thread in threads:
+            thread.join(max(0.0, end - time.monotonic()))
+        count = sum(sweeper.lane.count() for sweeper in sweepers)
+        print(f"{count} faults within {time.monotonic() - began:.0f} s, {len(sweepers[0].wrong)} of them wrong", flush=True)
+    if failed:
+        raise failed[0]
+    return count
 
 
 @pytest.mark.timeout(SAMPLE_SECONDS + 180)
 @pytest.mark.parametrize("module", [FRONT, PAGE])
-def test_a_sample_of_all_faults(sweeper: Sweepers, module: str) -> None:
+def test_a_sample_of_all_faults(sweep: Sweeps, module: str) -> None:
     seed = int(os.environ.get("SEED", GATE_SEED))
     print(f"SEED={seed}")
     source = random.Random(seed)
     chosen = source.randrange(SAMPLE_PARTS)
-    made = sweeper(module, int(os.environ.get("PART", chosen)), SAMPLE_PARTS, SAMPLE_SECONDS, source)
-    go_through(made, phases_of(made, module, most=2))
-    assert made.faults() > 0
+    sweep(module, int(os.environ.get("PART", chosen)), SAMPLE_PARTS, SAMPLE_LANES, SAMPLE_PAGES, SAMPLE_SECONDS, source, MOST_WRONG)
 
 
 @pytest.mark.long
 @pytest.mark.timeout(0)
-@pytest.mark.parametrize("part", range(LONG_PARTS))
 @pytest.mark.parametrize("module", [FRONT, PAGE])
-def test_all_faults(sweeper: Sweepers, module: str, part: int) -> None:
-    made = sweeper(module, part, LONG_PARTS, float("inf"), random.Random(part))
-    go_through(made, phases_of(made, module, most=25))
+def test_all_faults(sweep: Sweeps, module: str) -> None:
+    sweep(module, 0, 1, LONG_LANES, LONG_PAGES, float("inf"), random.Random(1), LONG_WRONG)

@@ -231,6 +231,8 @@ def answers(front: Front, program: Program) -> Answers:
     """The front has such a server: `answers("BID x 1", "OK 1")` lets it answer."""
     fields = json.loads(definition())
     names = [("NODE", node["name"]) for node in fields["nodes"]] + [("WHO", bidder["name"]) for bidder in fields["bidders"]]
+    # A front asks for the bidder by which a mock is known, too.
+    names.append(("WHO", "mock_auction"))
     questions = ["SHOW", *(f"{word} {name}" for word, name in names)]
     shown = program.run(text=definition() + text_of(questions)).lines()
     known = {f"{question}\n".encode(): f"{answer}\n".encode() for question, answer in zip(questions, shown, strict=True)}

@@ -5,6 +5,7 @@ from __future__ import annotations
 import asyncio
 import os
 import signal
+import threading
 import time
 from collections.abc import Iterator
 from contextlib import suppress
@@ -249,6 +250,19 @@ def test_a_fault_that_nobody_thought_of_changes_nothing_at_a_signal() -> None:
 
     asyncio.run(reload())
     assert [line.rpartition(": ")[2] for line in said] == ["KeyError"]
+
+
+def test_files_that_a_disk_doesnt_give_are_refused_in_time() -> None:
+    said, given = list[str](), threading.Event()
+
+    async def reload() -> None:
+        with mock.patch.object(terms, "read_terms", lambda path, in_force: given.wait()), mock.patch.object(terms, "READ_SECONDS", 0.5):
+            reloading = terms.Reload(mock.Mock(path="C"), terms.Terms(DEFAULTS, Tokens("", ()), None), mock.Mock(), said.append, mock.Mock())
+            await asyncio.wait_for(reloading.change(), SECONDS)
+
+    asyncio.run(reload())
+    given.set()
+    assert [line.rpartition(": ")[2] for line in said] == ["they aren't read within 0.5 seconds, as when a disk hangs"]
 
 
 def test_how_long_questions_are_answered_after_the_end_follows_a_signal(front: Front) -> None:

@@ -1,16 +1,11 @@
-"""Rounds that keep time (docs/ROUNDS.md), behind a real front. A whole day goes from the definition to the results, with rounds of seconds, and
-the front is killed in the middle."""
+"""Rounds that keep time (docs/ROUNDS.md), behind a real front: `test_day_by_clock.py` has a whole day."""
 
 from __future__ import annotations
 
 import base64
 import http.client
-import json
-import random
 import signal
-import threading
 import time
-from dataclasses import dataclass, field
 from datetime import datetime, timezone
 from pathlib import Path
 
@@ -19,183 +14,9 @@ from fronts import ADDRESS, Caller, Front, token_of
 from harness.auctions import definition
 from harness.fronts import run_tool
 from harness.programs import Program
-from harness.serving import free_port, wait_until
+from harness.serving import wait_until
 
-from hpb import Client, FrontRefused, HpbError, Refused
 from hpb.front.times import read_exact_time, text_of_time
-from hpb.record import read_record
-
-SECONDS = 110
-# A day of rounds, an hour of which takes seconds.
-LENGTH, GAP, FIRST = 4, 1, 3
-NAMES = {f"n{number}": [f"b{number}"] for number in range(12)}
-REGIONS = 6
-
-
-def day_definition() -> bytes:
-    """30 licences in six regions of five, under one package of all; twelve bidders of one name each."""
-    nodes: list[dict[str, object]] = [{"name": "all", "parent": None}]
-    for region in range(REGIONS):
-        nodes.append({"name": f"r{region}", "parent": "all"})
-        nodes += [{"name": f"l{region}{place}", "parent": f"r{region}", "units": 2 + place, "opening": 100} for place in range(5)]
-    bidders = [{"name": f"b{number}", "units": 120 if number < 2 else 24} for number in range(12)]
-    return json.dumps({"step": 10, "percent": 25, "stages": [80, 95], "waivers": 1, "nodes": nodes, "bidders": bidders}).encode() + b"\n"
-
-
-@dataclass
-class Bidder:
-    """A bidder with a value for each node, who bids in each round as long as a minimum is below it. `accepted` has its bids by round."""
-
-    number: int
-    port: int
-    nodes: list[str]
-    accepted: list[tuple[int, str]] = field(default_factory=list)
-    late: int = 0
-    fault: BaseException | None = None
-
-    def run(self) -> None:
-        try:
-            with Client(ADDRESS, self.port, token=token_of(f"n{self.number}"), plain=True, timeout=SECONDS) as client:
-                self.follow(client)
-        except BaseException as fault:  # The test raises it.
-            self.fault = fault
-
-    def follow(self, client: Client) -> None:
-        dice, done = random.Random(self.number), 0
-        values = {node: dice.randint(90, 400) * (1 if node.startswith("l") else 4) for node in self.nodes}
-        while (known := client.schedule()).state != "over":
-            if known.state == "open" and known.round > done:
-                done = known.round
-                self.bid(client, dice, values, known.round)
-            time.sleep(0.1)
-
-    def bid(self, client: Client, dice: random.Random, values: dict[str, int], number: int) -> None:
-        """Bids for up to three nodes, each in this round alone."""
-        for node in dice.sample(self.nodes, 3):
-            shown = client.node(node)
-            if shown.minimum > values[node] or (shown.wins and shown.bidder == f"b{self.number}"):
-                continue
-            try:
-                client.bid(f"b{self.number}", node, shown.minimum, round=number)
-                self.accepted.append((number, node))
-            except FrontRefused as refused:
-                assert refused.word in ("closed", "round"), refused
-                self.late += 1
-            except Refused as refused:
-                assert refused.number in (22, 24, 25), refused
-
-
-@dataclass
-class Auctioneer:
-    """The auctioneer: looks what each close would do, moves the stage once, resumes a pause, and says something."""
-
-    port: int
-    previews: dict[int, bool] = field(default_factory=dict)
-    pauses: int = 0
-    fault: BaseException | None = None
-
-    def run(self) -> None:
-        try:
-            with Client(ADDRESS, self.port, token=token_of("desk"), plain=True, timeout=SECONDS) as client:
-                client.tell("SAY all good morning")
-                self.follow(client)
-        except BaseException as fault:  # The test raises it.
-            self.fault = fault
-
-    def follow(self, client: Client) -> None:
-        stage = 1
-        while (known := client.schedule()).state != "over":
-            try:
-                if known.state == "paused":
-                    client.tell("RESUME")
-                    self.pauses += 1
-                elif known.state == "open" and known.left <= 1:
-                    self.previews[known.round] = client.preview().ends
-                elif known.state == "waits" and known.round == 3 and stage == 1:
-                    client.stage()
-                    stage = 2
-            except HpbError as refused:
-                # The round may have ended meanwhile, and the clock have taken the ticket.
-                assert isinstance(refused, Refused | FrontRefused), refused
-            time.sleep(0.1)
-
-
-@pytest.mark.timeout(2 * 60)
-def test_a_day_of_twelve_bidders_and_thirty_licences_on_a_schedule(program: Program, room: Path) -> None:
-    rounds = {
-        "zone": "Europe/Berlin", "first": text_of_time(time.time() + FIRST), "length_seconds": LENGTH, "gap_seconds": GAP, "warn_seconds": [3, 2, 1],
-        "may_end": True, "unsynchronised": True,
-    }
-    names: dict[str, object] = {"desk": "auctioneer", **NAMES, "public": "observer"}
-    limits = {"after_end_seconds": 3, "lines_per_second": 1000}
-    port = free_port()
-    with Front(program, room, names, limits, {"listen": f"{ADDRESS}:{port}"}, {"rounds": rounds}) as front:
-        program.keep(front.file, text=day_definition())
-        front.start()
-        nodes = [node["name"] for node in json.loads(day_definition())["nodes"]]
-        bidders, desk = [Bidder(number, port, nodes) for number in range(12)], Auctioneer(port)
-        callers: list[Bidder | Auctioneer] = [*bidders, desk]
-        threads = [threading.Thread(target=one.run, daemon=True) for one in callers]
-        for thread in threads:
-            thread.start()
-        kill_between_warning_and_close(front, round_=2)
-        front.start()
-        for thread in threads:
-            thread.join(SECONDS)
-        faults = [one.fault for one in callers if one.fault]
-        assert not faults and not any(thread.is_alive() for thread in threads), faults
-        ended = front.ended()
-    assert ended.status == 0 and "CLOSED" in ended.output, ended
-    look_at_record(front, bidders, desk)
-    look_at_results(program, front)
-
-
-def kill_between_warning_and_close(front: Front, round_: int) -> None:
-    """Kills the front in this round, behind its last warning."""
-
-    def is_warned() -> bool:
-        return any(entry["what"] == "warned" and entry["round"] == round_ and entry["seconds"] == 1 for entry in front.entries("clock"))
-
-    wait_until(is_warned, SECONDS, "no warning came")
-    front.kill()
-
-
-def look_at_record(front: Front, bidders: list[Bidder], desk: Auctioneer) -> None:
-    """Each round was opened once and closed once, no bid was judged in another round, and each bid that was answered is there."""
-    entries = read_record(front.record)[0]
-    clock = [entry for entry in entries if entry["kind"] == "clock"]
-    closed = [entry["closed"] for entry in clock if entry["what"] == "closed"]
-    assert closed == list(range(1, len(closed) + 1)) and len(closed) >= 4, closed
-    assert [entry["round"] for entry in clock if entry["what"] == "opened"] == closed
-    number, of_round = 1, dict[int, list[str]]()
-    for entry in entries:
-        if entry["kind"] == "accepted":
-            words = entry["line"].split()
-            if words[0] == "BID":
-                of_round.setdefault(number, []).append(f"{words[1]} {words[3]}")
-            number += words[0] == "CLOSE"
-    for bidder in bidders:
-        for round_, node in bidder.accepted:
-            assert f"b{bidder.number} {node}" in of_round[round_]
-    for entry in clock:
-        if entry["what"] == "ended":
-            assert read_exact_time(entry["time"]) >= read_exact_time(entry["until"])
-    # The kill was noticed: the round goes on, or is paused.
-    assert any(entry["what"] == "back" for entry in clock) and sum(entry["kind"] == "started" for entry in entries) == 2
-    assert sum(map(len, of_round.values())) >= 30 and any(not ends for ends in desk.previews.values())
-
-
-def look_at_results(program: Program, front: Front) -> None:
-    """The record tells the file, and the result is the best."""
-    replayed = run_tool("replay", front.record, "--file", front.file, "--program", program.path)
-    assert (replayed.errors, replayed.status) == ("", 0) and "one chain of hashes" in replayed.output
-    text = front.folder / "definition.json"
-    text.write_bytes(day_definition())
-    checked = program.check(front.file)
-    verified = run_tool("verify", text, text=checked.output.encode())
-    assert verified.status == 0, verified
-    reported = run_tool("report", front.file, "--program", program.path)
-    assert reported.status == 0 and "<html" in reported.output
 
 
 def test_a_round_is_opened_and_closed_by_hand_of_the_auctioneer(front: Front) -> None:

@@ -12,7 +12,7 @@ from pathlib import Path
 
 import pytest
 from faults import FRONT, PAGE, Faults
-from fronts import STOP_SECONDS, Caller, Front, StartsNot
+from fronts import STOP_SECONDS, Caller, Front, StartsNot, make_certificate
 from harness.programs import Program
 from harness.serving import Ended, wait_until
 
@@ -163,12 +163,63 @@ events.Handle._run = lost
 """
 
 
-def test_a_first_step_that_is_lost_ends_the_front(front: Front, room: Path, monkeypatch: pytest.MonkeyPatch) -> None:
+# Loses the first task before its first step. Then asyncio says what happened, and hands over no fault.
+LOST_TASK = """
+from asyncio import base_events
+def create_task(self, work, **more):
+    work.close()
+    self.call_exception_handler({"message": "a task is lost"})
+    raise MemoryError
+base_events.BaseEventLoop.create_task = create_task
+"""
+
+
+@pytest.mark.parametrize(("lost", "why"), [(LOST, "MemoryError"), (LOST_TASK, "a task is lost")], ids=["step", "task"])
+def test_a_first_step_that_is_lost_ends_the_front(front: Front, room: Path, monkeypatch: pytest.MonkeyPatch, lost: str, why: str) -> None:
     """Nothing would ever go on: asyncio only logs it."""
-    (room / "sitecustomize.py").write_text(LOST)
+    (room / "sitecustomize.py").write_text(lost)
     monkeypatch.setenv("PYTHONPATH", str(room))
     ran = front.run()
-    assert (ran.status, ran.output, ran.errors) == (1, "", "front: a fault of the front: MemoryError\n")
+    assert (ran.status, ran.output, ran.errors) == (1, "", f"front: a fault of the front: {why}\n")
+
+
+# Two faults in a row: a call in a thread fails, and so does the report of it. Python loads this module at its start.
+MUTE = """
+import time
+from hpb.front.tls import Tls
+from hpb.pages.following import Follower
+class Mute(Exception):
+    def __repr__(self):
+        raise MemoryError
+def step(self):
+    raise Mute
+def follow(self):
+    time.sleep(3)  # The page comes up meanwhile.
+    raise Mute
+Tls.step, Follower.follow = step, follow
+"""
+
+
+def test_a_fault_of_handshakes_that_cant_be_reported_ends_the_front(front: Front, room: Path, monkeypatch: pytest.MonkeyPatch) -> None:
+    """Nobody would be let in any more."""
+    (room / "sitecustomize.py").write_text(MUTE)
+    monkeypatch.setenv("PYTHONPATH", str(room))
+    front.context, front.has_board = make_certificate(front.folder), False
+    front.configure(certificate="S", key="K").start()
+    with pytest.raises(OSError):
+        front.client("ann", seconds=STOP_SECONDS)
+    ran = front.ended()
+    assert ran.status == 1 and "front: a fault of the front: RuntimeError: the thread of handshakes has ended\n" in ran.errors, ran
+
+
+def test_a_page_whose_fault_cant_be_reported_is_started_again(front: Front, room: Path, monkeypatch: pytest.MonkeyPatch) -> None:
+    """It would show the same state for ever."""
+    (room / "sitecustomize.py").write_text(MUTE)
+    monkeypatch.setenv("PYTHONPATH", str(room))
+    front.start()
+    front.wait_until_said("board: following ended, and there was no memory to say why")
+    front.wait_until_said("front: the board is gone; it is started again in ")
+    assert front.stop().status == 0
 
 
 def test_two_signals_and_more_end_it_once(front: Front) -> None:

@@ -82,4 +82,4 @@ def test_no_refusal_of_memory_leaves_a_lock_held(library: Callable[[Path], Path]
     conditions = NORMAL.with_library(library(SOURCE), FAULT_IN=path.name, FAULT_FROM="", FAULT_SITES=str(sweep.path), PYTHONMALLOC="malloc")
     ran = subprocess.run([sys.executable, path], capture_output=True, text=True, timeout=80, env=with_package(conditions.variables()))
     assert (ran.stdout, ran.returncode) == ("", 0), ran
-    assert sweep.count() > 20
+    assert sweep.lane().count() > 20

@@ -17,7 +17,7 @@ import pytest
 from faults import Faults
 from harness.auctions import commands
 from harness.programs import Program, shown
-from harness.serving import Client, Serve, Server, read_line, wait_until
+from harness.serving import Client, Serve, Server, read_line
 
 Library = Callable[[Path], Path]
 # Within how many seconds a session is answered, and a program ends, whatever standard error does.

@@ -1,10 +1,11 @@
-"""A file that somebody else overwrites or cuts, or whose name he takes, while it is served: the server says so, and nothing else."""
+"""A file that somebody else overwrites or cuts, or whose name he takes, while it is served or run: it is said, and nothing else."""
 
 from __future__ import annotations
 
 import os
 import re
-from collections.abc import Callable
+import subprocess
+from collections.abc import Callable, Iterator
 from pathlib import Path
 
 import pytest
@@ -15,12 +16,17 @@ from harness.serving import Client, Serve, Server
 
 PLACE = re.compile(r"hpb: (\d+ of \d+ places taken|place \d+ of \d+ (is held by|\(\S+\) has ended:) .*)\n")
 SPOILED = (
-    "hpb: {0} was cut, made longer or overwritten while it was served, and may lack commands that get OK: "
+    "hpb: {0} was cut, made longer or overwritten while it was in use, and may lack commands that get OK: "
     "end all sessions, and go back to your newest backup\n"
 )
 WAS_SPOILED = (
-    "hpb: 91 device: {0} was cut, made longer or overwritten while it was served, and may lack commands that got OK. "
+    "hpb: 91 device: {0} was cut, made longer or overwritten while it was in use, and may lack commands that got OK. "
     "See it by `hpb check --file {0}`, go back to your newest backup, and send again, in their order, the commands since then\n"
+)
+WAS_REPLACED = (
+    "hpb: 91 device: {0} was moved, removed or replaced while it was in use. Commands that got OK are in the file that was opened: "
+    "if that has another name, give it its own name again. If it has none, go back to your newest backup, and send again, in their order, "
+    "the commands since then\n"
 )
 UNNAMED = (
     "hpb: {0} was removed or replaced while it was served, but its file has another name, which `find / -inum {2}` finds: "
@@ -31,6 +37,8 @@ GOES_ON, IS_IN_IT = "get OK go on into it", "got OK are in it"
 # How many commands there are before a file is served, before it is changed, and after that. The last are more than a journal has
 # room for, with one in a batch.
 BEFORE, MEANWHILE, BEHIND = 3, 8, 80
+SECONDS = 20
+Run = Callable[[Callable[[Path], None]], tuple[str, str, int]]
 
 
 def told(said: str) -> str:
@@ -214,3 +222,55 @@ def test_a_name_that_is_replaced_beside_another_is_told(program: Program, calm: 
         assert client.finish() == []
     assert told(server.ended().errors) == UNNAMED.format(calm, IS_IN_IT, inode)
     assert program.count(other) == MEANWHILE
+
+
+def moved(file: Path) -> None:
+    file.rename(file.with_name("moved"))
+
+
+def removed(file: Path) -> None:
+    file.unlink()
+
+
+def replaced(file: Path) -> None:
+    """By its backup, which has the same length."""
+    file.with_name("backup").rename(file)
+
+
+@pytest.fixture
+def run(program: Program, calm: Path) -> Iterator[Run]:
+    """Runs a file, changes it once an answer shows that the run has begun, and returns output, messages and status."""
+    with program.start("run", "--file", calm, input=subprocess.PIPE) as running:
+
+        def ends(change: Callable[[Path], None]) -> tuple[str, str, int]:
+            assert running.stdin and running.stdout
+            running.stdin.write(b"SHOW\n")
+            running.stdin.flush()
+            assert running.stdout.readline().endswith(b" COUNT %d\n" % MEANWHILE)
+            change(calm)
+            output, errors = running.communicate(text_of(commands(MEANWHILE + 1)[MEANWHILE:]), timeout=SECONDS)
+            return output.decode(), errors.decode(), running.returncode
+
+        yield ends
+        running.kill()
+
+
+@pytest.mark.parametrize("change", CHANGES)
+def test_a_run_says_at_its_end_that_its_file_was_changed(calm: Path, run: Run, change: str) -> None:
+    """Its answers are those of the auction in its memory."""
+    assert run(CHANGES[change]) == (f"OK {MEANWHILE + 1}\n", WAS_SPOILED.format(calm), 1)
+
+
+@pytest.mark.parametrize("change", [moved, removed, replaced])
+def test_a_run_says_at_its_end_that_its_file_lost_its_name(calm: Path, run: Run, change: Callable[[Path], None]) -> None:
+    assert run(change) == (f"OK {MEANWHILE + 1}\n", WAS_REPLACED.format(calm), 1)
+
+
+@pytest.mark.parametrize("change", [Path.stat, Path.read_bytes])
+def test_a_run_whose_file_is_only_read_ends_well(run: Run, change: Callable[[Path], None]) -> None:
+    assert run(change) == (f"OK {MEANWHILE + 1}\n", "", 0)
+
+
+def test_a_run_of_many_batches_and_checkpoints_finds_its_own_writes(program: Program, kept: Path) -> None:
+    ran = program.run_lines(kept, text_of(commands(BEFORE + 300)[BEFORE:]), "--batch", 7, "--every", 3)
+    assert (ran.errors, ran.status) == ("", 0)

@@ -28,13 +28,22 @@ IS_FOREIGN = "{0}.new is another user's, and {0} is made by that name first: nam
 IS_WRITABLE = "{0}.new may be written by others, and {0} is made by that name first: if no other hpb makes it now, give that one another name"
 FILE_IS_FOREIGN = "{0} is another user's, who could change the auction: name a file that isn't there, in a folder that only you may write"
 LINK_IS_FOREIGN = "{0} is another user's link, which may lead to any file of yours: name a file that isn't there, in a folder that only you may write"
+IN_USE = "{0} is in use by another process: wait until that has ended"
 LINK_IS_LOOSE = "{0} is a link that leads to no file: remove it, or name a file that isn't there"
+# In a folder in which each user may make files, Linux lets nobody follow another user's link if this says 1. `hpb` then sees no link at all.
+PROTECTED_LINKS = Path("/proc/sys/fs/protected_symlinks")
+LINK_IS_REFUSED = "{0} could not be opened, made or written: Permission denied (os error 13): see that you may use it, and read its folder"
 # An access list by which the user nobody may read and write all files made in a folder: tags, permissions, and a user's number.
 ACL_VERSION = 2
 ACL_ENTRY = struct.Struct("<HHI")
 ACL_OWNER, ACL_USER, ACL_GROUP, ACL_MASK, ACL_OTHER = 0x01, 0x02, 0x04, 0x10, 0x20
 NO_ID = 0xFFFFFFFF
 READ, READ_WRITE = 4, 6
+
+
+def of_anothers_link(said: str) -> str:
+    """The words on another user's link: these, if the system lets anybody follow it."""
+    return said if PROTECTED_LINKS.read_text() == "0\n" else LINK_IS_REFUSED
 
 
 def refused(ran: Ran, file: Path, said: str) -> bool:
@@ -102,7 +111,7 @@ def test_another_users_link_and_pipe_beside_are_refused(program: Program, mounte
     assert sorted(path.name for path in mounted.iterdir() if path.name != "lost+found") == ["F.new", "target"]
 
 
-@pytest.mark.parametrize("kind", ["link", "loose link", "pipe", "second name", "folder", "bytes"])
+@pytest.mark.parametrize("kind", ["link", "loose link", "pipe", "second name", "folder", "bytes", "a late byte"])
 def test_what_no_killed_format_left_beside_is_refused(program: Program, room: Path, kind: str) -> None:
     beside, target = room / "F.new", room / "target"
     target.write_bytes(ZEROS)
@@ -114,6 +123,7 @@ def test_what_no_killed_format_left_beside_is_refused(program: Program, room: Pa
         "second name": lambda: os.link(target, beside),
         "folder": beside.mkdir,
         "bytes": lambda: write_as(beside, BYTES, OWNERS_ALONE),
+        "a late byte": lambda: write_as(beside, bytes(2 * PAGE) + b"w", OWNERS_ALONE),
     }
     work[kind]()
     before = state_of(beside), state_of(target)
@@ -130,6 +140,18 @@ def test_a_rest_that_others_may_write_is_refused(program: Program, room: Path, m
     ran = program.format(room / "F")
     assert refused(ran, room / "F", IS_WRITABLE), ran
     assert state_of(room / "F.new") == before and not (room / "F").exists()
+
+
+def test_a_file_that_is_being_made_is_in_use(program: Program, room: Path) -> None:
+    """Another process has the lock on it. Once that has ended, it is a rest."""
+    write_as(room / "F.new", b"", OWNERS_ALONE)
+    with open(room / "F.new", "rb") as held:
+        fcntl.flock(held, fcntl.LOCK_EX)
+        ran = program.format(room / "F")
+        assert refused(ran, room / "F", IN_USE), ran
+        assert [path.name for path in room.iterdir()] == ["F.new"]
+    assert program.format(room / "F").status == 0
+    assert [path.name for path in room.iterdir()] == ["F"]
 
 
 @pytest.mark.parametrize("mode", [0o600, 0o644], ids=oct)
@@ -215,7 +237,7 @@ def test_another_users_link_of_that_name_overwrites_nothing(program: Program, mo
     nobody.call(os.symlink, target, file)
     before = state_of(file), state_of(target)
     ran = program.format(file, layout)
-    assert refused(ran, file, LINK_IS_FOREIGN), ran
+    assert refused(ran, file, of_anothers_link(LINK_IS_FOREIGN)), ran
     assert (state_of(file), state_of(target)) == before and not (mounted / "F.new").exists()
 
 
@@ -226,7 +248,7 @@ def test_a_link_that_leads_to_no_file_is_refused(program: Program, mounted: Path
     _ = nobody.call(link) if as_nobody else link()
     before = state_of(file)
     ran = program.format(file)
-    assert refused(ran, file, LINK_IS_LOOSE), ran
+    assert refused(ran, file, of_anothers_link(LINK_IS_LOOSE) if as_nobody else LINK_IS_LOOSE), ran
     assert state_of(file) == before
     assert not target.exists() and not (mounted / "F.new").exists()
 

@@ -9,7 +9,7 @@ from collections.abc import Callable
 from pathlib import Path
 
 import pytest
-from fronts import Caller, Front, StartsNot, rest_of
+from fronts import Front, StartsNot, rest_of
 
 from hpb.record import New, RecordFile, time_now
 from hpb.record.kept import NotKept

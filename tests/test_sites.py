@@ -3,10 +3,8 @@
 from __future__ import annotations
 
 import os
-import random
 import subprocess
 import sys
-import time
 from collections.abc import Callable
 from pathlib import Path
 
@@ -15,7 +13,8 @@ from faults import FRONT, SOURCE, calls
 from harness.conditions import NORMAL
 from harness.programs import Program
 from sites import Sweep
-from test_front_faults import Sweeper
+from sweeping import Kind
+from test_front_faults import Shared, Sweeper
 
 # A program that writes three letters at one place and a fourth one at another. What fails is passed over.
 TOY = """import os
@@ -47,7 +46,7 @@ def toy(library: Callable[[Path], Path], room: Path) -> Callable[[Sweep], str]:
     path.write_text(TOY)
 
     def runs(sweep: Sweep) -> str:
-        sweep.arm()
+        sweep.lane().arm()
         conditions = NORMAL.with_library(library(SOURCE), FAULT_IN=path.name, FAULT_FROM="", FAULT_SITES=str(sweep.path))
         return subprocess.run([sys.executable, path], capture_output=True, text=True, timeout=60, env=conditions.variables()).stdout
 
@@ -60,35 +59,35 @@ def test_each_site_fails_once_with_each_error(toy: Callable[[Sweep], str], room:
     seen = []
     for _ in range(5):
         output = toy(sweep)
-        seen.append((output, sweep.disarm()))
+        seen.append((output, sweep.lane().disarm()))
     assert seen == [("aab", True)] * 2 + [("aaa", True)] * 2 + [("aaab", False)]
-    assert sweep.count() == 4
+    assert sweep.lane().count() == 4
 
 
 def test_a_site_is_told_with_its_line_and_can_be_tried_alone(toy: Callable[[Sweep], str], room: Path) -> None:
     sweep = Sweep(room / "sites", {"write": ERRORS})
     told = []
-    while toy(sweep) and sweep.disarm():
-        told.append(sweep.last())
+    while toy(sweep) and sweep.lane().disarm():
+        told.append(sweep.lane().last())
     lines = [f"toy.py:{line} main" in one for one, line in zip(told, [FIRST_LINE, FIRST_LINE, SECOND_LINE, SECOND_LINE], strict=True)]
     assert all(lines), told
     key = int(told[2].split(":")[0].removeprefix("site "), 16)
-    alone = Sweep(room / "alone", {"write": ERRORS}, only=key)
-    assert (toy(alone), alone.disarm(), toy(alone), alone.disarm()) == ("aaa", True, "aaab", False)
+    alone = Sweep(room / "alone", {"write": ERRORS}, only=[key])
+    assert (toy(alone), alone.lane().disarm(), toy(alone), alone.lane().disarm()) == ("aaa", True, "aaab", False)
 
 
 def test_parts_have_each_site_once(toy: Callable[[Sweep], str], room: Path) -> None:
     count = 0
     for part in range(3):
         sweep = Sweep(room / f"sites-{part}", {"write": ERRORS}, part, parts=3)
-        while toy(sweep) and sweep.disarm():
+        while toy(sweep) and sweep.lane().disarm():
             count += 1
     assert count == 4
 
 
 def test_calls_without_errors_never_fail(toy: Callable[[Sweep], str], room: Path) -> None:
     sweep = Sweep(room / "sites", {"read": ERRORS})
-    assert toy(sweep) == "aaab" and not sweep.disarm()
+    assert toy(sweep) == "aaab" and not sweep.lane().disarm()
 
 
 def test_a_call_fails_by_whichever_name_python_makes_it() -> None:
@@ -139,13 +138,15 @@ def test_a_bug_of_a_front_is_found(
 ) -> None:
     (room / "sitecustomize.py").write_text(bug)
     monkeypatch.setenv("PYTHONPATH", f"{room}:{os.environ.get('PYTHONPATH', '')}")
-    made = Sweeper(program, memory, library(SOURCE), FRONT, 0, 20, time.monotonic() + 20, random.Random(1))
-    made.most_wrong = 1
+    shared = Shared.of(program, memory, library(SOURCE), FRONT, part=0, parts=20, seconds=20)
+    shared.most_wrong = 1
+    made = Sweeper(shared, shared.sweep.lane())
     try:
         if phase == "begin":
-            made.begin(lambda: made.new_day(is_full=False))
+            made.begin(lambda: made.new_day(Kind.CLEAR))
         else:
-            made.stop(is_full=False)
+            made.stop(Kind.CLEAR)
     finally:
-        made.finish()
-    assert made.wrong and found in made.wrong[0], made.wrong
+        made.drop()
+        shared.nursery.end()
+    assert shared.wrong and found in shared.wrong[0], shared.wrong

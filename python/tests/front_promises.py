@@ -17,7 +17,10 @@ BIDDER_MAY = "BID WAIVE SHOW NODE WHO"
 COMMANDS = ("BID", "WAIVE", "CLOSE", "STAGE")
 GOODBYES = (b"ERR front token", b"ERR front many", b"ERR front idle")
 HANDED_TO_NOBODY = (b"ERR 93", b"ERR 95")
-QUESTIONS = [b"SHOW", *(b"NODE " + name.encode() for name in TREE.nodes), *(b"WHO " + name.encode() for name in TREE.bidders)]
+# The last one tells a mock's server, whose definition has that bidder, from another one.
+QUESTIONS = [
+    b"SHOW", *(b"NODE " + name.encode() for name in TREE.nodes), *(b"WHO " + name.encode() for name in TREE.bidders), b"WHO mock_auction",
+]
 LONG, HALF = b"(a line that is too long)", b"(half a line)"
 END_SECONDS = 10.0
 

@@ -192,6 +192,8 @@ class RoundPromises(Promises):
             require_kept(line.startswith((b"EVENT ", b"SCHEDULE ", b"READ ", b"PREVIEW ", b"AGREE ", b"ERR front ")), Kept.NEWS_IN_ORDER, (asked, line))
             if asked.startswith(b"EVENT") and line != b"EVENT -":
                 self.look_at_told(world, wire.name, line)
+            if line.startswith(b"SCHEDULE "):
+                self.look_at_schedule(world, line)
         elif line in OF_ROUNDS:
             self.look_at_refused(world, wire, asked, line, self.of_wire[wire.number][place - 1])
         elif word in OWN:
@@ -208,6 +210,15 @@ class RoundPromises(Promises):
         if text.startswith("SAY "):
             to = found[0]["to"]
             require_kept(text == f"SAY {to} {found[0]['text']}" and (to in ("all", name) or name == "desk"), Kept.NEWS_IN_ORDER, (name, line))
+
+    def look_at_schedule(self, world: World, line: bytes) -> None:
+        """The state of the clock that somebody gets stands on the disk."""
+        words = line.decode().split(" ")
+        state, until = words[4], words[8]
+        if state == "none" or (state == "waits" and until == "-"):
+            return
+        seen = [(entry["paused"] and "paused" or entry["state"], entry["until"]) for entry in world.disk.entries if entry["kind"] == "clock"]
+        require_kept((state, until) in [(one, f"{time[:19]}Z" if time else "-") for one, time in seen], Kept.NEWS_IN_ORDER, (line, seen[-3:]))
 
     def look_at_refused(self, world: World, wire: Wire, asked: bytes, line: bytes, taken: Taken) -> None:
         """The front refuses a command because of its round: it has to be right, and the command must not be new to the server."""

@@ -190,29 +190,53 @@ def test_a_command_that_the_server_has_is_waited_for_at_the_end(vanishes: bool) 
 # The ledger.
 
 
-def held(ledger: Ledger, number: int, sent: int) -> Ledger:
-    return ledger.hold(number, Held(sent, "ann", b"BID x 1 a 100", session=0))
+def hold(ledger: Ledger, number: int, sent: int) -> None:
+    ledger.held[number] = Held(sent, "ann", b"BID x 1 a 100", session=0)
 
 
 def test_a_number_waits_for_smaller_ones_that_may_still_come() -> None:
-    first, one = Ledger().took_place()
-    second, other = first.took_place()
-    told = second.tell(one).tell(other)
-    assert (one, other, told.explained()) == (0, 1, (0, 2))
-    waiting = held(told.judged(other), 2, 2)
-    assert waiting.next() is None and waiting.explained() == (2, 2)
-    both = held(waiting.judged(one), 1, 2)
-    found = both.next()
-    assert isinstance(found, Held) and found.entry(1) == effects.Write(
-        "accepted", {"name": "ann", "line": "BID x 1 a 100", "answer": "OK 1"}
-    )
-    assert isinstance(both.accept().next(), Held) and both.accept().accept().next() is None
+    ledger = Ledger()
+    one, other = ledger.take_place(), ledger.take_place()
+    ledger.tell(one)
+    ledger.tell(other)
+    assert (one, other, ledger.explained()) == (0, 1, (0, 2))
+    ledger.judge(other)
+    hold(ledger, 2, 2)
+    assert ledger.next() is None and ledger.explained() == (2, 2)
+    ledger.judge(one)
+    hold(ledger, 1, 2)
+    for number in (1, 2):
+        found = ledger.next()
+        assert isinstance(found, Held)
+        assert found.entry(number) == effects.Write("accepted", {"name": "ann", "line": "BID x 1 a 100", "answer": f"OK {number}"})
+        ledger.accept(found.line)
+    assert ledger.next() is None and (ledger.count, ledger.written, ledger.used) == (2, 2, {"x": 1})
 
 
 def test_a_number_that_is_nobody_s_is_foreign() -> None:
     """It is known to be foreign once each command that was sent before it has got another answer."""
-    ledger, one = Ledger(count=2).took_place()
-    told = ledger.tell(one)
-    waiting = held(told, 5, 1)
-    assert waiting.next() is None
-    assert waiting.judged(one).next() == Foreign(3, 4)
+    ledger = Ledger(count=2)
+    one = ledger.take_place()
+    ledger.tell(one)
+    hold(ledger, 5, 1)
+    assert ledger.next() is None
+    ledger.judge(one)
+    assert ledger.next() == Foreign(3, 4)
+
+
+def test_a_place_that_is_given_back_is_taken_again() -> None:
+    ledger = Ledger()
+    assert [ledger.take_place() for _ in range(3)] == [0, 1, 2]
+    ledger.give_place(1)
+    assert [ledger.take_place(), ledger.take_place()] == [1, 3]
+
+
+def test_a_copy_of_a_ledger_is_changed_without_the_first_one() -> None:
+    first = Ledger(count=1, used={"x": 1}, told={0: 1}, free=[1])
+    hold(first, 3, 1)
+    copy = first.copy()
+    assert copy == first
+    copy.tell(copy.take_place())
+    copy.accept(b"BID y 4 a 100")
+    hold(copy, 4, 2)
+    assert (first.count, first.used, first.told, first.free, list(first.held)) == (1, {"x": 1}, {0: 1}, [1], [3])

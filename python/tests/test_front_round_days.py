@@ -74,7 +74,7 @@ def test_names_that_share_sessions_hold_one_another_up_for_no_longer_than_a_clos
 Patch = pytest.MonkeyPatch
 Plant = Callable[[Patch], None]
 mark, look_at_open, resume, was_closed, begin = rounds.mark, rounds.look_at_open, rounds.resume, rounds.was_closed, rounds.begin
-leave, refusal = sessions.leave, desk.refusal
+refusal, answer, next_line = desk.refusal, desk.answer, news.next_line
 
 
 def ends_early(patch: Patch) -> None:
@@ -180,15 +180,12 @@ def clock_may_end_it(patch: Patch) -> None:
 
 def told_before_it_is_written(patch: Patch) -> None:
     """News leave at once."""
+    patch.setattr(news, "next_line", lambda front, name, after, most_entry: next_line(front, name, after, front.ledger.written))
 
-    def early(step: Step, place: int) -> None:
-        synced = step.front.ledger.synced
-        if step.front.sessions[place].line.startswith(b"EVENT"):
-            step.set_ledger(synced=step.front.ledger.written)
-        leave(step, place)
-        step.set_ledger(synced=synced)
 
-    patch.setattr(sessions, "leave", early)
+def schedule_before_it_is_written(patch: Patch) -> None:
+    """The state of the clock leaves at once."""
+    patch.setattr(desk, "answer", lambda step, name, line: (answer(step, name, line)[0], 0 if line == b"SCHEDULE" else step.front.ledger.written))
 
 
 def told_to_others(patch: Patch) -> None:
@@ -226,6 +223,7 @@ PLANTS: list[tuple[Plant, Kept, str, str]] = [
     (time_is_not_given_back, Kept.TIME_GIVEN_BACK, "lengths", ""),
     (clock_may_end_it, Kept.NO_SLIP, "lengths", ""),
     (told_before_it_is_written, Kept.NEWS_IN_ORDER, "lengths", ""),
+    (schedule_before_it_is_written, Kept.NEWS_IN_ORDER, "lengths", ""),
     (told_to_others, Kept.NEWS_IN_ORDER, "lengths", ""),
     (never_ends, Kept.READY, "lengths", ""),
     (absence_by_a_kill_is_not_noticed, Kept.ABSENCE_TOLD, "lengths", "kills boundary"),

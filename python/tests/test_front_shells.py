@@ -2,11 +2,10 @@
 from __future__ import annotations
 
 import asyncio
-import re
+import itertools
 import threading
 from collections.abc import Callable
 from dataclasses import dataclass, field
-from typing import Any
 
 import pytest
 
@@ -15,7 +14,6 @@ from hpb.front import recorder as front_recorder
 from hpb.front.clients import Connection
 from hpb.front.core import Setting, effects, events, new_front
 from hpb.front.core.events import Event
-from hpb.front.faults import Stops
 from hpb.front.machine import Machine
 from hpb.front.recorder import Recorder, opened
 from hpb.front.server import Session
@@ -90,7 +88,21 @@ def test_a_connection_hands_in_one_line_each_time_it_may(connection: Connection)
     assert posted(connection) == [] and carrier_of(connection).is_reading
     connection.data_received(b" x\n")
     assert posted(connection) == [events.Line(1, b"WHO x")]
+
+
+def test_a_connection_reads_no_more_while_a_line_of_it_has_to_wait(connection: Connection) -> None:
+    connection.take(128)
+    connection.data_received(b"SHOW\n")
+    assert carrier_of(connection).is_reading
+    connection.data_received(b"N")
     assert not carrier_of(connection).is_reading
+    connection.take(128)
+    assert carrier_of(connection).is_reading
+    connection.data_received(b"ODE a\nWHO x\n")
+    assert not carrier_of(connection).is_reading
+    connection.take(128)
+    assert carrier_of(connection).is_reading
+    assert posted(connection)[1:] == [events.Line(1, b"SHOW"), events.Line(1, b"NODE a"), events.Line(1, b"WHO x")]
 
 
 def test_a_line_that_is_too_long_is_cut_and_what_stands_behind_it_is_gone(connection: Connection) -> None:
@@ -142,6 +154,7 @@ class SlowRecord:
     place: Place = Place()
     state: State = field(default_factory=State)
     kinds: list[str] = field(default_factory=list)
+    times: list[str] = field(default_factory=list)
     beside: dict[int, Asked | None] = field(default_factory=dict)
     may_write: threading.Event = field(default_factory=threading.Event)
     fault: Exception | None = None
@@ -153,6 +166,7 @@ class SlowRecord:
     def write(self, entries: list[New]) -> None:
         self.wait()
         self.kinds += [entry.kind for entry in entries]
+        self.times += [entry.at for entry in entries]
         self.place = Place(self.place.number + len(entries))
 
     def look(self) -> None:
@@ -187,11 +201,47 @@ def test_an_entry_is_told_once_it_is_on_the_disk_and_those_that_come_meanwhile_g
         recorder = Recorder(record, told.append)
         for kind in ("a", "b", "c"):
             recorder.write(effects.Write(kind, {}))
+            recorder.flush()
             await asyncio.sleep(0.02)
         assert told == []
         record.may_write.set()
         await until(lambda: len(told) == 2)
         assert told == [events.Synced(1, Place(1)), events.Synced(2, Place(3))] and record.kinds == ["a", "b", "c"]
+
+    asyncio.run(talk())
+
+
+def test_entries_of_one_step_are_written_together_and_bear_one_time() -> None:
+    async def talk() -> None:
+        record, told = SlowRecord(), list[Event]()
+        record.may_write.set()
+        recorder = Recorder(record, told.append)
+        for kinds in ("ab", "c"):
+            before = len(told)
+            for kind in kinds:
+                recorder.write(effects.Write(kind, {}))
+                await asyncio.sleep(0.02)
+            assert len(told) == before
+            recorder.flush()
+            await until(lambda: len(told) > before)
+        assert told == [events.Synced(2, Place(2)), events.Synced(1, Place(3))]
+        first, second, third = record.times
+        assert first == second < third
+
+    asyncio.run(talk())
+
+
+def test_no_more_entries_go_together_than_may() -> None:
+    async def talk() -> None:
+        record, told = SlowRecord(), list[Event]()
+        record.may_write.set()
+        recorder = Recorder(record, told.append)
+        for number in range(2 * front_recorder.MOST_AT_ONCE + 1):
+            recorder.write(effects.Write(str(number), {}))
+        recorder.flush()
+        await until(lambda: len(told) == 3)
+        assert [event.entries for event in told if isinstance(event, events.Synced)] == [128, 128, 1]
+        assert record.kinds == [str(number) for number in range(257)]
 
     asyncio.run(talk())
 
@@ -202,12 +252,15 @@ def test_commands_beside_the_record_are_told_and_freed_places_are_not() -> None:
         record.may_write.set()
         recorder = Recorder(record, told.append)
         recorder.put(effects.PutBeside(0, "ann", b"BID x 1 a 100"))
+        recorder.flush()
         await until(lambda: told == [events.StandsBeside((0,))])
         assert opened(record).left == (events.Left("ann", b"BID x 1 a 100"),)
         recorder.put(effects.FreeBeside(0))
         recorder.put(effects.PutBeside(1, "bob", b"BID y 1 b 150"))
+        recorder.flush()
         await until(lambda: told[1:] == [events.StandsBeside((1,))])
         recorder.put(effects.EmptyBeside())
+        recorder.flush()
         await until(lambda: told[2:] == [events.BesideEmptied()])
         assert record.left() == []
 
@@ -220,10 +273,11 @@ def test_a_record_that_fails_is_told_once_and_nothing_more_is_written(fault: Exc
         record, told = SlowRecord(fault=fault), list[Event]()
         record.may_write.set()
         recorder = Recorder(record, told.append)
-        recorder.write(effects.Write("a", {}))
+        write(recorder, "a")
         await until(lambda: len(told) == 1)
-        recorder.write(effects.Write("b", {}))
+        write(recorder, "b")
         await asyncio.sleep(0.05)
+        recorder.entries.hand_in()
         assert isinstance(told[0], events.Failed) and told[0].why.startswith("the record can't be written: ")
         assert len(told) == 1 and record.kinds == []
 
@@ -241,7 +295,7 @@ def test_a_record_that_fails_ends_the_front_though_memory_for_the_word_of_it_is_
 
         asyncio.get_running_loop().set_exception_handler(lambda _, context: taken.append(context.get("exception")))
         recorder = Recorder(record, refuse)
-        recorder.write(effects.Write("a", {}))
+        write(recorder, "a")
         await until(lambda: len(taken) == 1)
         assert isinstance(taken[0], MemoryError)
 
@@ -253,17 +307,61 @@ def test_a_record_that_isnt_kept_is_missed_though_nothing_is_written(fault: Exce
     monkeypatch.setattr(front_recorder, "KEPT_SECONDS", 0.01)
 
     async def talk() -> None:
-        record = SlowRecord()
+        record, told = SlowRecord(), list[Event]()
         record.may_write.set()
-        looking = asyncio.create_task(Recorder(record, list[Event]().append).keep_looking())
+        looking = asyncio.create_task(Recorder(record, told.append).keep_looking())
         await asyncio.sleep(0.1)
-        assert not looking.done()
+        assert not told
+        record.fault = MemoryError()
+        await asyncio.sleep(0.1)
+        assert not told
         record.fault = fault
-        async with asyncio.timeout(SECONDS):
-            with pytest.raises(Stops, match=re.escape(str(fault))):
-                await looking
+        await until(lambda: len(told) == 1)
+        assert told == [events.Failed(str(fault))]
+        looking.cancel()
 
     asyncio.run(talk())
+
+
+def write(recorder: Recorder, kind: str) -> None:
+    recorder.write(effects.Write(kind, {}))
+    recorder.flush()
+
+
+def written_by(loses: Callable[[pytest.MonkeyPatch, asyncio.AbstractEventLoop], None]) -> list[Event]:
+    """The events for one entry, if memory is refused to the thread that has written it."""
+    told: list[Event] = []
+
+    async def writes() -> None:
+        with pytest.MonkeyPatch.context() as patch:
+            patch.setattr(front_recorder, "KEPT_SECONDS", 0.1)
+            record = SlowRecord()
+            record.may_write.set()
+            loses(patch, asyncio.get_running_loop())
+            recorder = Recorder(record, told.append)
+            looking = asyncio.create_task(recorder.keep_looking())
+            write(recorder, "a")
+            await until(lambda: bool(told))
+            looking.cancel()
+
+    asyncio.run(writes())
+    return told
+
+
+def refuse(*_: object, **__: object) -> None:
+    """A request for memory that is refused."""
+    raise MemoryError
+
+
+@pytest.mark.filterwarnings("ignore::pytest.PytestUnraisableExceptionWarning")
+def test_a_thread_that_is_lost_with_its_result_ends_the_front() -> None:
+    told = written_by(lambda patch, loop: patch.setattr("hpb.front.recorder.Writer.tell", refuse))
+    assert told == [events.Failed("the record can't be written: its thread has ended")]
+
+
+def test_a_result_that_is_not_handed_over_is_found() -> None:
+    told = written_by(lambda patch, loop: patch.setattr(loop, "call_soon_threadsafe", refuse))
+    assert told == [events.Synced(1, Place(1))]
 
 
 # The server, and the whole front.
@@ -314,52 +412,35 @@ def test_a_shell_that_fails_is_heard_of_and_nothing_comes_of_any_event_afterward
     assert done == []
 
 
-def written_by(loses: Callable[[pytest.MonkeyPatch, asyncio.AbstractEventLoop], None]) -> list[Event]:
-    """The events for one entry, if memory is refused to the thread that has written it."""
-    told: list[Event] = []
+def test_events_of_one_turn_of_the_loop_are_taken_together_in_their_order_and_one_that_is_posted_comes_last() -> None:
+    async def talk() -> None:
+        machine, clock = new_machine(), itertools.count(1)
+        machine.clock = lambda: float(next(clock))
+        flushed: list[float] = []
+        machine.flushes.append(lambda: flushed.append(machine.front.clock))
+        machine.gather(events.Stuffed(1, True))
+        machine.gather(events.Tick())
+        assert flushed == []
+        await asyncio.sleep(0)
+        assert flushed == [1.0] and machine.events == []
+        machine.gather(events.ServerFailed("first", is_final=True))
+        machine.shells[effects.Finish] = lambda effect: ends.append(effect.why)
+        ends: list[str] = []
+        machine.post(events.ServerFailed("last", is_final=True))
+        assert ends == ["first"] and flushed == [1.0, 2.0]
+        await asyncio.sleep(0)
+        assert ends == ["first"]
 
-    async def writes() -> None:
-        with pytest.MonkeyPatch.context() as patch:
-            record = SlowRecord()
-            record.may_write.set()
-            recorder = Recorder(record, told.append)
-            loses(patch, asyncio.get_running_loop())
-            recorder.write(effects.Write("a", {}))
-            async with asyncio.timeout(SECONDS):
-                while not told:
-                    await asyncio.sleep(0.01)
-
-    asyncio.run(writes())
-    return told
-
-
-def refuse(*_: object) -> None:
-    """A request for memory that is refused."""
-    raise MemoryError
+    asyncio.run(talk())
 
 
-@pytest.mark.filterwarnings("ignore::pytest.PytestUnraisableExceptionWarning")
-def test_a_thread_that_is_lost_with_its_result_ends_the_front() -> None:
-    told = written_by(lambda patch, loop: patch.setattr("hpb.threads._Job.do", refuse))
-    assert isinstance(told[0], events.Failed) and "the thread has ended" in told[0].why
+def test_a_shell_that_fails_at_a_gathered_event_is_heard_of_by_the_loop() -> None:
+    async def talk() -> None:
+        machine, taken = new_machine(), list[object]()
+        asyncio.get_running_loop().set_exception_handler(lambda _, context: taken.append(context.get("exception")))
+        machine.flushes.append(refuse)
+        machine.gather(events.Tick())
+        await until(lambda: len(taken) == 1)
+        assert isinstance(taken[0], MemoryError) and machine.has_ended
 
-
-def test_an_event_of_the_record_that_is_lost_ends_the_front() -> None:
-    """Else no line would ever be answered again, and nothing would say so."""
-
-    def lose(patch: pytest.MonkeyPatch, loop: asyncio.AbstractEventLoop) -> None:
-        call_soon = loop.call_soon
-
-        def refuse_event(callback: Callable[..., object], *arguments: object, **more: Any) -> asyncio.Handle:
-            if any(isinstance(one, events.Synced) for one in arguments):
-                raise MemoryError
-            return call_soon(callback, *arguments, **more)
-
-        patch.setattr(loop, "call_soon", refuse_event)
-
-    assert written_by(lose) == [events.Failed("the record can't be written: MemoryError()")]
-
-
-def test_a_result_that_is_not_handed_over_is_found() -> None:
-    told = written_by(lambda patch, loop: patch.setattr(loop, "call_soon_threadsafe", refuse))
-    assert isinstance(told[0], events.Synced)
+    asyncio.run(talk())

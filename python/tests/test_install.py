@@ -62,6 +62,6 @@ def run_commands(scripts: pathlib.Path, program: Program, image: bytes, folder: 
     page = run(scripts / "hpb-report", file, "--program", program.path, folder=folder)
     assert page.startswith("<!DOCTYPE html>") and ".facts { display: grid;" in page
     assert run(scripts / "hpb-explain", definition, folder=folder) == ""
-    for name in ("board", "client", "front", "replay", "watch"):
+    for name in ("board", "client", "front", "replay", "watch", "web"):
         assert run(scripts / f"hpb-{name}", "--help", folder=folder).startswith(f"usage: hpb-{name} ")
     assert "board.css" in run(scripts / "python", "-I", "-c", ASSETS, folder=folder)

@@ -1,6 +1,7 @@
 """Threads, and what they share, with memory that is refused at any step."""
 from __future__ import annotations
 
+import _thread
 import asyncio
 import os
 import sys
@@ -11,9 +12,10 @@ from collections.abc import Callable
 import pytest
 
 from hpb import threads
+from hpb.front import words
 from hpb.front.log import Log, Stream
 from hpb.front.words import Writer
-from hpb.threads import Lines, Places, Signal, Thread, Worker, in_thread, keeper
+from hpb.threads import Keeper, Lines, Places, Signal, Thread, Worker, in_thread
 
 SECONDS = 10
 
@@ -53,6 +55,43 @@ def test_a_loop_goes_on_though_the_thread_of_a_call_doesnt_begin(monkeypatch: py
 def test_a_thread_that_fails_has_ended() -> None:
     thread = Thread(refuse).start()
     assert eventually(lambda: thread.has_ended)
+
+
+class Balky:
+    """A lock whose release asks for memory, which is refused so many times."""
+
+    def __init__(self, lock: _thread.LockType, refusals: int) -> None:
+        self.lock, self.refusals = lock, refusals
+
+    def __getattr__(self, name: str) -> object:
+        return getattr(self.lock, name)
+
+    def release(self) -> None:
+        self.refusals -= 1
+        if self.refusals >= 0:
+            raise MemoryError
+        self.lock.release()
+
+
+@pytest.mark.filterwarnings("ignore::pytest.PytestUnraisableExceptionWarning")
+def test_a_thread_that_ends_before_it_has_begun_is_missed() -> None:
+    """Within a moment, and not only once its time to begin is over."""
+    thread, began = Thread(lambda: None), time.monotonic()
+    thread.begun = Balky(thread.begun, 1)  # type: ignore[assignment]
+    with pytest.raises(RuntimeError, match="doesn't begin"):
+        thread.start()
+    assert time.monotonic() - began < threads.BEGIN_SECONDS
+    with pytest.raises(RuntimeError, match="the thread of tests has ended"):
+        thread.look("tests")
+
+
+def test_a_keeper_begins_though_memory_for_that_is_refused_first() -> None:
+    done = threading.Event()
+    kept = Keeper(done.set, 0.001)
+    kept.begun = Balky(kept.begun, 3)  # type: ignore[assignment]
+    kept.start()
+    kept.look("tests")
+    assert done.wait(SECONDS)
 
 
 def test_each_result_and_each_fault_of_a_worker_is_handed_over() -> None:
@@ -136,7 +175,7 @@ def test_work_goes_on_whatever_fails() -> None:
             raise MemoryError
         time.sleep(0.001)
 
-    keeper(work, 0.001).start()
+    Keeper(work, 0.001).start()
     assert eventually(lambda: len(done) > 20)
 
 
@@ -177,6 +216,26 @@ def test_what_is_lost_is_told_though_memory_for_the_word_of_it_is_refused_once()
     writer.thread.start()
     assert writer.end(SECONDS) == 0 and told == ["STOPPED 1"]
     os.close(output)
+
+
+@pytest.mark.parametrize("has_begun", [True, False])
+@pytest.mark.parametrize(("failures", "lost"), [(1, 0), (2, 1)])
+def test_a_line_that_cant_be_written_is_tried_once_more(monkeypatch: pytest.MonkeyPatch, failures: int, lost: int, has_begun: bool) -> None:
+    """By the thread that writes, or at the end if that never began. If it fails again the next line is written."""
+    written, left = list[bytes](), iter(range(failures))
+
+    def write(stream: int, data: bytes) -> None:
+        for _ in left:
+            raise OSError(5, "it fails")
+        written.append(data)
+
+    monkeypatch.setattr(words, "write_all", write)
+    writer = Writer(2, writes=2)
+    for line in ("a", "b"):
+        writer.add(line)
+    if has_begun:
+        writer.thread.start()
+    assert writer.end(SECONDS) == 0 and written == [b"a\n", b"b\n"][lost:]
 
 
 def eventually(holds: Callable[[], bool]) -> bool:

@@ -256,6 +256,7 @@ class Engine:
         self._answer(queue)
         self._leave()
         self._make_due()
+        self.compare()
         self.ask("close")
 
     def _leave(self) -> None:

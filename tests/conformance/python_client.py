@@ -4,7 +4,7 @@ from __future__ import annotations
 
 import sys
 
-from hpb import Accepted, AskNode, AskWho, Bid, Client, Close, Command, HpbError, Show, Stage, Unanswered, Waive
+from hpb import Accepted, Bid, Client, Close, Command, HpbError, Stage, Unanswered, Waive
 from hpb.lines import Answer, format_answer
 from hpb.refusals import FrontRefused, Refused
 

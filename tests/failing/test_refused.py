@@ -23,7 +23,7 @@ from outside.answering import same
 
 MEMORY = (
     "ERR 90 memory\n",
-    "hpb: 90 memory: memory was refused, or a thread, which was told then: free some memory, let the process have more threads (ulimit -u), or give "
+    "hpb: 90 memory: memory, or a thread, was refused: free some memory, let the process have more threads (ulimit -u), or give "
     "fewer to --sessions. All that was answered by OK is kept\n",
 )
 # The program says this as soon as a thread is refused.

@@ -13,7 +13,7 @@ SAID = b"hpb: 90 memory: memory was refused\n"
 SAID_OF_PLACE = b"hpb: 94 place"
 # Standard error of a server without memory. A refused thread counts as refused memory.
 SAID_OF_SERVE = (
-    b"hpb: 90 memory: memory was refused, or a thread, which was told then: free some memory, let the process have more threads (ulimit -u), or give "
+    b"hpb: 90 memory: memory, or a thread, was refused: free some memory, let the process have more threads (ulimit -u), or give "
     b"fewer to --sessions. All that was answered by OK is kept\n"
 )
 SAID_OF_RUN = (

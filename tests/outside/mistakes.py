@@ -77,9 +77,13 @@ def _long() -> Iterator[tuple[str, bytes, str]]:
     bidders = [{"name": f"b{place}", "units": 1} for place in range(65)]
     many_licences, many_bidders = "56 limits: nodes: 65 licences are more than 64", "56 limits: bidders: 65 are more than 64"
     yield "one byte too many", DEFINITION.ljust(65_537), "60 json: more than 65,536 bytes"
+    yield "blanks alone, as many as may be read", b" " * 65_536, f"60 json: the definition is empty{ONE_LINE}"
     yield "far too many bytes", b"[" * 100_000, "60 json: more than 65,536 bytes"
     yield "128 nested lists", b"[" * 128 + b"]" * 128, "60 json: line 1 column 129: nested more than 127 deep"
     yield "127 nested lists", b"[" * 127 + b"]" * 127, "61 field: the definition is a list, and has to be an object"
+    yield "128 lists without an end", b"[" * 128, "60 json: line 1 column 128: nested more than 127 deep"
+    yield "127 lists without an end", b"[" * 127, f"60 json: line 1 column 127: the text ends before the JSON does{ONE_LINE}"
+    yield "127 objects without an end", b'{"[\\"[":' * 127, f"60 json: line 1 column 1016: the text ends before the JSON does{ONE_LINE}"
     yield "128 nodes", with_fields(nodes=licences), "56 limits: nodes: 128 are more than 127"
     yield "65 licences", with_fields(nodes=licences[:65]), many_licences
     yield "65 bidders", with_fields(bidders=bidders), many_bidders
@@ -103,6 +107,7 @@ CHANGES = [
     ("a front", OVER_LINES[OVER_LINES.index(' "nodes"') - 1 :], "", "60 json: line 7 column 3: the text ends before the JSON does"),
     ("a byte that is no UTF-8", "port", "p\udce9rt", "60 json: line 30 column 14: not UTF-8"),
     ("a field", '"opening": 2000', '"Opening": 2000', UNKNOWN),
+    ("a brace behind the definition", OVER_LINES, "{}\n }", '60 json: line 2 column 2: reading stopped at "}"'),
     ("nothing but lines", OVER_LINES, "\n\n", "60 json: the definition is empty"),
 ]
 

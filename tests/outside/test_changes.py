@@ -82,7 +82,7 @@ def touched(file: Path) -> None:
     os.utime(file)
 
 
-SPOILED = "F was cut, made longer or overwritten while it was served, and may lack commands that"
+SPOILED = "F was cut, made longer or overwritten while it was in use, and may lack commands that"
 REPLACED = "hpb: F was removed or replaced while it was served,"
 OTHER_NAME = f"{REPLACED} but its file has another name, which `find / -inum N` finds: commands that"
 STAYS = "it, and are kept as long as that name stays. See that it gets its name again"
@@ -194,9 +194,12 @@ def test_bytes_that_change_behind_the_last_checkpoint(file: Path, serve: Serve, 
     tells_of(change, server, 1)
 
 
-def test_what_the_engine_writes_is_no_change(file: Path, serve: Serve) -> None:
-    """Whatever the commands are."""
-    server = serve(file)
+@pytest.mark.parametrize("by_link", [False, True], ids=["itself", "a link"])
+def test_what_the_engine_writes_is_no_change(file: Path, serve: Serve, by_link: bool) -> None:
+    """Whatever the commands are, and whichever name leads to the file."""
+    if by_link:
+        file.with_name("L").symlink_to(file)
+    server = serve(file.with_name("L") if by_link else file)
     session = server.connect()
     lines = [line for turn in range(1, 31) for line in (f"BID x {turn} d {100 << turn}", f"BID y {turn} d {100 << turn}", f"CLOSE {turn}")]
     assert [session.ask(line) for line in lines] == [f"OK {number}" for number in range(1, 91)]

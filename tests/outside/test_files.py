@@ -207,6 +207,29 @@ def test_a_folder_that_cant_be_read(program: Program, file: Path, room: Path) ->
     assert file.read_bytes() == kept
 
 
+@pytest.mark.parametrize("job", ["check", "run", "serve"])
+def test_a_file_that_cant_be_synced(program: Program, job: str) -> None:
+    """A regular file of the system, which can be read and locked."""
+    file = "/proc/self/comm"
+    is_refused(run_job(program, job, file), f"hpb: 91 device: {file} could not be opened: Invalid argument (os error 22): see ")
+
+
+def test_a_file_that_may_not_be_written(program: Program, file: Path, room: Path) -> None:
+    """It can be shown. Root may write each file, so another user does this in its place."""
+    kept, user = file.read_bytes(), User.named("nobody") if os.geteuid() == 0 else None
+    conditions = Conditions(user=user)
+    if user:
+        user.own(room)
+        user.own(file)
+    file.chmod(0o400)
+    said = f"hpb: 91 device: {file} could not be opened: Permission denied (os error 13): see that you may use it, and read its folder\n"
+    for job in ("run", "serve"):
+        is_refused(run_job(program, job, file, conditions), said)
+    ran = program.check(file, conditions)
+    assert (ran.lines()[0], ran.errors, ran.status) == (ONE_BID, "", 0)
+    assert file.read_bytes() == kept
+
+
 @pytest.mark.parametrize("lie", ["wrong", "silent", "well", "endless"])
 def test_what_is_refused_otherwise_is_seen(liar: Liar, room: Path, lie: str) -> None:
     with pytest.raises(AssertionError):

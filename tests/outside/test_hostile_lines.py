@@ -22,6 +22,24 @@ ROOMS = (128, 256, 4096, 8192, 65_536, 131_072, MILLION)
 PATIENCE = 100
 
 
+# Blanks, words and bytes too many, in a number those beside the digits; and a line is judged by its form before its names.
+MALFORMED = (
+    b" BID x 1 a 100", b"BID x 1 a 100 ", b"BID x 1 a 100 1", b"BID x +1 a 100", b"BID x 1/ a 1000000", b"BID x 1: a 1000000",
+    b"BID x 1\xb1 a 1000000", b"bid x 1 a 100", b"NODE ", b"BID q 1 e 1x",
+)
+# The bidder comes before the node, and both before the ticket.
+WELL_FORMED = (
+    (b"BID q 1 e 100", NO_BIDDER),
+    (b"BID a 0 x 0", NO_BIDDER),
+    (b"BID x 1 e 100", NO_NODE),
+    (b"NODE a\r", NO_NODE),
+    (b"BID x 0 a 123456789", "ERR 13 old\n"),
+    (b"BID x 10 a 1000000", "ERR 15 gap\n"),
+    (b"BID x 12345678 a 90817263", "ERR 15 gap\n"),
+    (b"BID x 4294967295 a 18446744073709551615", "ERR 15 gap\n"),
+)
+
+
 def long_lines() -> Iterator[bytes]:
     """Each is no line. Behind the room that a reader may have stands what would be one."""
     for byte in (b"x", b"\xff", b"\0", b" ", b"0", b"\r"):
@@ -36,8 +54,9 @@ def long_lines() -> Iterator[bytes]:
 
 def short_lines() -> Iterator[tuple[bytes, str]]:
     """Each with its answer: numbers that are too great, words as long as they can be, and each byte alone, in a word and behind one."""
-    for line in (b"", b"BID x 4294967296 a 100", b"BID x 1 a 18446744073709551616"):
+    for line in (b"", b"BID x 4294967296 a 100", b"BID x 1 a 18446744073709551616", *MALFORMED):
         yield line, NO_LINE
+    yield from WELL_FORMED
     for word, answer in ((b"WHO ", NO_BIDDER), (b"NODE ", NO_NODE)):
         longest = word.ljust(128, b"x")
         yield longest, answer

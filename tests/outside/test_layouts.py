@@ -7,11 +7,11 @@ from pathlib import Path
 
 import pytest
 
-from harness.auctions import FIRST_ROUND, PAGE, Layout, definition, rounds, text_of
+from harness.auctions import FIRST_ROUND, PAGE, Layout, commands, definition, rounds, text_of
 from harness.notices import closes
 from harness.programs import Program, format_words
 from harness.serving import Server
-from outside.encoder import BIDDERS, CELL, FRAME, JOURNAL_AT, NODES, Image
+from outside.encoder import BIDDERS, CELL, CLOSED, FRAME, HEAD_AT, JOURNAL_AT, NODES, OPEN, SLOTS, Auction, Image
 from outside.jobs import EMPTY, first_shown
 from outside.lies import Liar
 
@@ -42,6 +42,22 @@ def is_made(program: Program, file: Path, layout: Layout, journal: int) -> None:
 @pytest.mark.parametrize("layout, journal", JOURNALS)
 def test_a_new_file(program: Program, room: Path, layout: Layout, journal: int) -> None:
     is_made(program, room / "F", layout, journal)
+
+
+@pytest.mark.parametrize("byte", [b"\x07", OPEN], ids=["closed", "open"])
+def test_a_file_of_other_bytes_is_used(program: Program, room: Path, layout: Layout, byte: bytes) -> None:
+    """Bytes that no reader looks at stay, and so do gates that are closed."""
+    journal = layout.least_journal
+    new, wanted = Image(layout, journal), Image(layout, journal)
+    wanted.put(0, byte * len(new.bytes))
+    for start, end in ((0, 1), (HEAD_AT, 3 * PAGE), (SLOTS[0], SLOTS[0] + 1), (SLOTS[0] + PAGE, SLOTS[1])):
+        wanted.put(start, bytes(new.bytes[start:end]))
+    for gate in (SLOTS[1], *(wanted.frame(index) for index in range(journal))):
+        wanted.put(gate, CLOSED if byte == OPEN else byte)
+    (room / "F").write_bytes(byte * len(new.bytes))
+    assert program.format(room / "F", layout, journal).status == 0
+    assert differ((room / "F").read_bytes(), wanted.bytes) == ""
+    assert first_shown(program, room / "F") == EMPTY
 
 
 def test_16_frames_of_cells_are_77824_bytes(program: Program, room: Path) -> None:
@@ -131,6 +147,38 @@ def test_each_byte_of_batches(program: Program, room: Path, layout: Layout) -> N
     assert first_shown(program, file).endswith(" COUNT 35")
 
 
+# Numbers of commands, and the bytes of the cells that a batch of these takes.
+SIZES = [(1, 496), (29, 496), (30, 1008), (60, 1008), (61, 1520), (64, 1520)]
+
+
+@pytest.mark.parametrize(("count", "size"), SIZES)
+def test_the_cells_of_a_batch(program: Program, room: Path, count: int, size: int) -> None:
+    """Behind them no byte of the frame is written."""
+    wanted, lines = Image(Layout.CELLS, 16), commands(count)
+    wanted.put(wanted.frame(0) + 1, b"\x5a" * (FRAME[Layout.CELLS] - 1))
+    (room / "F").write_bytes(wanted.bytes)
+    assert program.run_lines(room / "F", text_of(lines), "--batch", 64).status == 0
+    assert wanted.put_batch(0, 1, lines) == size
+    assert differ((room / "F").read_bytes(), wanted.bytes) == ""
+    assert first_shown(program, room / "F").endswith(f" COUNT {count}")
+
+
+def test_the_last_frame_of_the_longest_journal_and_then_its_first(program: Program, room: Path, layout: Layout) -> None:
+    """The first bid is that of batch 1,023, the second that of batch 1,024."""
+    wanted, auction = Image(layout, 1024), Auction()
+    auction.count = 1023
+    wanted.put_state(1, auction.state(1023))
+    (room / "F").write_bytes(wanted.bytes)
+    lines = ["BID x 1 a 100", "BID y 1 b 150"]
+    ran = program.run_lines(room / "F", text_of(lines), "--batch", 1)
+    assert ran.told() == ("OK 1024\nOK 1025\n", "", 0)
+    for index, line in enumerate(lines, 1023):
+        wanted.put_batch(index, index + 1, [line])
+    assert (wanted.frame(1023) + FRAME[layout], wanted.frame(1024)) == (len(wanted.bytes), JOURNAL_AT)
+    assert differ((room / "F").read_bytes(), wanted.bytes) == ""
+    assert first_shown(program, room / "F").endswith(" COUNT 1025")
+
+
 AT = JOURNAL_AT + 5 * FRAME[Layout.CELLS]
 # Of a file of cells: the place of other bytes, these bytes, and the end of the first line that is shown then.
 CHANGES = {
@@ -143,6 +191,7 @@ CHANGES = {
     "a zero behind that number": (AT + CELL + 15, b"\x01", "ERR 45 frame"),
     "the end of the second cell": (AT + 2 * CELL - 1, b"\x01", "ERR 45 frame"),
     "the gate": (AT, b"\x00", " COUNT 5"),
+    "a gate that is neither open nor closed": (AT, b"\xa4", " COUNT 5"),
     "the third cell": (AT + 2 * CELL, b"\xff" * CELL, " COUNT 35"),
     "bytes behind the gate": (AT + 1, b"\xff" * 15, " COUNT 35"),
 }
@@ -159,6 +208,28 @@ def test_other_bytes_of_cells(program: Program, room: Path) -> None:
     for size in (len(whole) - PAGE, len(whole) + PAGE):
         file.write_bytes(whole[:size].ljust(size, b"\0"))
         assert first_shown(program, file) == "ERR 42 layout"
+
+
+# The same of a file of pages with the first round in its first frame. Bytes change behind the gate, in the index, in the number of the
+# first command, in the number of records, and in the bidder of the first of them.
+PAGES_AT = JOURNAL_AT
+PAGES_CHANGES = {
+    "the gate": (PAGES_AT, b"\xa4", " COUNT 0"),
+    "bytes behind the gate": (PAGES_AT + 1, b"\xff" * 15, " COUNT 5"),
+    "another index": (PAGES_AT + 23, b"\x04", " COUNT 0"),
+    "another first command": (PAGES_AT + 31, b"\x02", "ERR 45 frame"),
+    "a record too many": (PAGES_AT + 33, b"\x41", "ERR 45 frame"),
+    "an unknown bidder": (PAGES_AT + 41, b"\x04", "ERR 45 frame"),
+}
+
+
+def test_other_bytes_of_pages(program: Program, room: Path) -> None:
+    image = Image(Layout.PAGES, 4)
+    image.put_batch(0, 1, FIRST_ROUND)
+    for what, (place, other, shown) in PAGES_CHANGES.items():
+        whole = bytes(image.bytes)
+        (room / "F").write_bytes(whole[:place] + other + whole[place + len(other) :])
+        assert first_shown(program, room / "F").endswith(shown), what
 
 
 LINES = [*FIRST_ROUND, "BID x 1 a 100", "BID q 1 a 100", "", *rounds(7, 2), "STAGE 9", *QUESTIONS]

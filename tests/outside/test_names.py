@@ -158,6 +158,27 @@ def test_a_command_that_is_to_be_pasted_has_its_name_whole(program: Program, roo
     assert (ran.status, f"`hpb run --file {name}" in ran.errors, len(ran.errors) < TOO_MANY) == (1, True, True)
 
 
+# Names, how each is shown, and how it is pasted: a shell takes more than 400 bytes, but no line has room for them.
+QUOTED = [(f"a{odd}b", f"a{odd}b", f"'a{odd}b'") for odd in " $&;|<>()`\"\\*?[]{}~#!^"]
+NAMES = [
+    *QUOTED,
+    ("-it's mine", "-it's mine", r"'./-it'\''s mine'"),
+    ("-a", "-a", "./-a"),
+    ("a.b_c-d+e,f:g@h%i=j", "a.b_c-d+e,f:g@h%i=j", "a.b_c-d+e,f:g@h%i=j"),
+    ("d" * 200 + "/" + "n" * 199, "d" * 100 + "..", "d" * 200 + "/" + "n" * 199),
+    ("d" * 200 + "/" + "n" * 200, "d" * 100 + "..", "F"),
+]
+
+
+@pytest.mark.parametrize(("name", "shown", "pasted"), NAMES, ids=[*(name for name, _, _ in NAMES[:-2]), "400 bytes", "401 bytes"])
+def test_a_name_that_a_shell_would_read_otherwise_is_in_quotes(program: Program, room: Path, name: str, shown: str, pasted: str) -> None:
+    (room / name).parent.mkdir(exist_ok=True)
+    assert told(run_job(program, room, "format", f"--file={name}")) == ("FORMATTED 17\n", 0)
+    again = run_job(program, room, "format", f"--file={name}")
+    said = f"{shown} keeps an auction already, and nothing was changed: see it by `hpb check --file {pasted}`, or name another file"
+    assert again.told() == ("ERR 41 formatted\n", f"hpb: 41 formatted: {said}\n", 1)
+
+
 @pytest.mark.parametrize("job", ["check", "run", "serve"])
 def test_a_long_name_of_a_file_that_keeps_nothing(program: Program, room: Path, job: str) -> None:
     name = long_name(room)

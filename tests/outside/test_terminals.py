@@ -40,6 +40,11 @@ REFUSED_LINES = [
     ("BID ann 1 bay 1000", "ERR 22 low", "the least that may be bid on bay is 1050 dollars"),
     ("BID eve 1 bay 1100", "ERR 11 bidder", None),
     ("HELP", "ERR 10 line", None),
+    ("WAIVE ann 1", "ERR 28 waiver", None),
+    ("WAIVE ann 2", "ERR 15 gap", "the next ticket of ann is 1"),
+    ("STAGE 4", "ERR 15 gap", "the next ticket of the auctioneer is 2"),
+    ("CLOSE 2", "OK 3", None),
+    ("BID ann 1 bay 1100", "ERR 20 closed", None),
 ]
 LINES = "".join(f"{line}\n" for line, _, _ in REFUSED_LINES).encode()
 ANSWERS = "".join(f"{answer}\n" for _, answer, _ in REFUSED_LINES)
@@ -74,6 +79,23 @@ def test_a_refused_definition(program: Program) -> None:
         typed.says(TYPE_A_SCRIPT + LONG_LINES)
         typed.type(b"{}\n")
         typed.ends(1, "ERR 61 field\n", "hpb: 61 field: step: missing\n")
+
+
+# Texts without a line feed behind them, the answers, the message, and the status.
+UNENDED = [
+    (b"{", "ERR 60 json\n", "hpb: 60 json: line 1 column 1: the text ends before the JSON does\n", 1),
+    (COAST[:-1], "", ACCEPTED, 0),
+    (COAST + b"x" * 129, "ERR 10 line\n", ACCEPTED, 0),
+]
+
+
+@pytest.mark.parametrize(("text", "answers", "said", "status"), UNENDED, ids=["a front", "a definition", "a long line"])
+def test_nothing_is_read_after_the_end(program: Program, text: bytes, answers: str, said: str, status: int) -> None:
+    """The first Ctrl-D hands on the line as it stands, and the second one ends the script. More could be typed then."""
+    with Typed(program) as typed:
+        typed.says(TYPE_A_SCRIPT + LONG_LINES)
+        typed.type(text + END + END)
+        typed.ends(status, answers, said)
 
 
 def test_format(program: Program, room: Path) -> None:

@@ -3,15 +3,20 @@
 from __future__ import annotations
 
 import random
+import socket
+import subprocess
 import threading
 import time
 from pathlib import Path
 
 import pytest
 
+from harness.auctions import definition
 from harness.programs import Program
 from harness.serving import Client, Ended, Server
+from harness.streams import opened
 from outside.floods import MOST_BIDS, Flood, bids, new_file
+from outside.jobs import EMPTY
 from outside.lies import Liar
 
 SEED = 5
@@ -66,6 +71,20 @@ def test_the_first_answer_comes_in_the_first_third(program: Program, room: Path)
 def test_a_write_has_the_answers_of_a_batch(program: Program, room: Path) -> None:
     for _ in range(3):
         part_of_first(program, room / "F", MOST_BIDS, 64)
+
+
+def test_a_script_from_a_file_costs_few_writes(program: Program, room: Path) -> None:
+    """For 10,000 lines fewer than 20. Each message of such a socket is one."""
+    (room / "script").write_bytes(definition() + b"CLOSE 0\nSHOW\n" * 5_000)
+    ours, theirs = socket.socketpair(socket.AF_UNIX, socket.SOCK_SEQPACKET)
+    ours.settimeout(SECONDS)
+    with ours, opened(room / "script") as text:
+        with theirs:
+            process = program.start(input=text, output=theirs.fileno(), errors=subprocess.DEVNULL)
+        writes = list(iter(lambda: ours.recv(1 << 20), b""))
+        assert process.wait(SECONDS) == 0
+    assert b"".join(writes) == f"ERR 13 old\n{EMPTY}\n".encode() * 5_000
+    assert len(writes) < 20
 
 
 @pytest.mark.parametrize("number", range(9))

@@ -55,8 +55,8 @@ def disk_of(file: Path) -> str:
     """The disk of a run failed: the file may not grow."""
     return (
         f"hpb: 91 device: the disk of {file} failed: File too large (os error 27). All that was answered by OK is kept. "
-        "See to the disk first: a full one wants room, and then the same file goes on; from one that breaks copy "
-        f"{file} to another, and take the copy. Then go on by {again(file)}, and send again, in their order, the commands "
-        "that were answered by 91 or 93, or not at all: one that was kept gets its old number, or 13 where its sender has a "
+        "See to the disk first. If it is full, make room, and the same file goes on. If it breaks, copy "
+        f"{file} to another disk, and use the copy. Then go on by {again(file)}, and send again, in their order, the commands "
+        "that were answered by 91 or 93, or not at all: one that was kept gets its old number, or 13 if its sender has a "
         "later one that was kept\n"
     )

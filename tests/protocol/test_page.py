@@ -53,7 +53,7 @@ ELSEWHERE: dict[str, str] = {
     """In a script, and .. If there isn't even .. `format` and `check` .. memory was refused ..""": (
         "def try_run(; def try_format(; def try_check("
     ),
-    """memory, or a thread ..""": "memory was refused, or a thread, which was told then: free some memory,",
+    """memory, or a thread ..""": "memory, or a thread, was refused: free some memory,",
     """The usual mistakes .. `hpb` accepts some .. a key that stands .. a second definition .. stages that fall .. a node for which .. a bidder who
     has .. a stage that asks .. `tools/explain` ..""": """
         def test_explain_warns_of_one_that_is_accepted(; the field 'percent' stands there twice

@@ -10,8 +10,6 @@ mod reply;
 mod running;
 mod saving;
 mod sender;
-#[cfg(test)]
-mod tests;
 mod verdict;
 mod views;
 

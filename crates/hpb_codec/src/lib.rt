@@ -22,8 +22,6 @@ mod state;
 mod state_format;
 mod state_head;
 mod table;
-#[cfg(test)]
-mod tests;
 mod writer;
 
 pub use batch::{BATCH_SIZE, Batch, batch_index, decode_batch, encode_batch};

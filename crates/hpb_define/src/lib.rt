@@ -9,6 +9,3 @@ mod shape;
 
 pub use definition::read_definition;
 pub use fault::{DefineCause, DefineFault};
-
-#[cfg(test)]
-mod tests;

@@ -13,8 +13,6 @@ mod layouts;
 mod limits;
 mod page;
 mod pages;
-#[cfg(test)]
-mod tests;
 mod three_cells;
 
 pub use any::AnyFrames;

@@ -83,7 +83,7 @@ const MEMORY: &str = "memory was refused";
 
 /// The text for want of memory while serving, which takes threads too.
 const MEMORY_OR_THREAD: &str =
-    "memory was refused, or a thread, which was told then: free some memory, let the process have more threads (ulimit -u), or give fewer to --sessions. All that was answered by OK is kept";
+    "memory, or a thread, was refused: free some memory, let the process have more threads (ulimit -u), or give fewer to --sessions. All that was answered by OK is kept";
 
 fn memory_of(job: Job<'_>) -> &'static str {
     match job {
@@ -199,7 +199,7 @@ fn advise_of_format<W: fmt::Write>(
         ),
         FormatCause::Device => write!(
             f,
-            "{file} could not be read, written or synced. See to its disk: a full one wants room. Then see by {look} whether the file keeps the auction, and if it doesn't, try again"
+            "{file} could not be read, written or synced. See to its disk, and make room on a full one. Then see by {look} whether the file keeps the auction, and if it doesn't, try again"
         ),
         FormatCause::Memory => f.write_str(MEMORY),
     }
@@ -367,19 +367,36 @@ impl fmt::Display for EndAdvice<'_> {
     }
 }
 
-/// The message about a job's file that somebody else cut, made longer or wrote while it was served, once all sessions
-/// have ended.
-#[derive(Clone, Copy)]
-pub struct SpoiledAdvice<'a>(pub Known<'a>);
+/// What somebody else did to a job's file while the job had it open.
+#[derive(Clone, Copy, Debug, PartialEq, Eq)]
+pub enum Meddling {
+    /// It was cut, made longer or written.
+    Spoiled,
+    /// Its path leads to another file, or to none.
+    Replaced,
+}
 
-impl fmt::Display for SpoiledAdvice<'_> {
+/// The message about a job's file with which somebody else has meddled, once the job has ended.
+#[derive(Clone, Copy)]
+pub struct MeddlingAdvice<'a> {
+    pub known: Known<'a>,
+    pub meddling: Meddling,
+}
+
+impl fmt::Display for MeddlingAdvice<'_> {
     fn fmt<W: fmt::Write>(&self, f: &mut fmt::Formatter<W>) -> fmt::Result {
-        let file = self.0.file();
+        let file = self.known.file();
         let (file, look) = (Escaped(file), CheckCommand(file));
-        write!(
-            f,
-            "{file} was cut, made longer or overwritten while it was served, and may lack commands that got OK. See it by {look}, go back to your newest backup, and send again, in their order, the commands since then"
-        )
+        match self.meddling {
+            Meddling::Spoiled => write!(
+                f,
+                "{file} was cut, made longer or overwritten while it was in use, and may lack commands that got OK. See it by {look}, go back to your newest backup, and send again, in their order, the commands since then"
+            ),
+            Meddling::Replaced => write!(
+                f,
+                "{file} was moved, removed or replaced while it was in use. Commands that got OK are in the file that was opened: if that has another name, give it its own name again. If it has none, go back to your newest backup, and send again, in their order, the commands since then"
+            ),
+        }
     }
 }
 
@@ -397,7 +414,7 @@ fn advise_of_disk<W: fmt::Write>(
     let unkept = unkept(known.job);
     write!(
         f,
-        ". All that was answered by OK is kept. See to the disk first: a full one wants room, and then the same file goes on; from one that breaks copy {file} to another, and take the copy. Then go on by {command}, and send again, in their order, {unkept}, or not at all: one that was kept gets its old number, or 13 where its sender has a later one that was kept"
+        ". All that was answered by OK is kept. See to the disk first. If it is full, make room, and the same file goes on. If it breaks, copy {file} to another disk, and use the copy. Then go on by {command}, and send again, in their order, {unkept}, or not at all: one that was kept gets its old number, or 13 if its sender has a later one that was kept"
     )
 }
 

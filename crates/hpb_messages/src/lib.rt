@@ -15,7 +15,9 @@ mod telling;
 #[cfg(test)]
 mod tests;
 
-pub use advice::{EndAdvice, JobAdvice, LedAdvice, ScriptAdvice, SpoiledAdvice, StreamsAdvice};
+pub use advice::{
+    EndAdvice, JobAdvice, LedAdvice, Meddling, MeddlingAdvice, ScriptAdvice, StreamsAdvice,
+};
 pub use job_fault::JobFault;
 pub use known::{Known, SeenFile, SeenHead, known_of, pages_of};
 pub use noted::{Failures, Noted};

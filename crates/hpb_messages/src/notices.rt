@@ -65,7 +65,7 @@ impl fmt::Display for ChangeNotice<'_> {
         match (self.change, self.is_end) {
             (Change::Spoiled, _) => write!(
                 f,
-                "{file} was cut, made longer or overwritten while it was served, and may lack commands that get OK: end all sessions, and go back to your newest backup"
+                "{file} was cut, made longer or overwritten while it was in use, and may lack commands that get OK: end all sessions, and go back to your newest backup"
             ),
             (Change::Moved, false) => write!(
                 f,

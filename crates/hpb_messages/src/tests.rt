@@ -106,7 +106,7 @@ fn faults_of_files_are_told(rt: HostRuntime) -> Result<(), Fail> {
         ),
         (
             JobFault::Format(FormatCause::Device),
-            "a.hpb could not be read, written or synced. See to its disk: a full one wants room. Then see by `hpb check --file a.hpb` whether the file keeps the auction, and if it doesn't, try again",
+            "a.hpb could not be read, written or synced. See to its disk, and make room on a full one. Then see by `hpb check --file a.hpb` whether the file keeps the auction, and if it doesn't, try again",
         ),
         (
             JobFault::Open(Cause::Device),
@@ -119,7 +119,7 @@ fn faults_of_files_are_told(rt: HostRuntime) -> Result<(), Fail> {
 }
 
 const DISK: &str =
-    "the disk of a.hpb failed. All that was answered by OK is kept. See to the disk first: a full one wants room, and then the same file goes on; from one that breaks copy a.hpb to another, and take the copy. Then go on by `hpb serve --file a.hpb --port 5000 --sessions 8`, and send again, in their order, the commands that were answered by 93, or not at all: one that was kept gets its old number, or 13 where its sender has a later one that was kept";
+    "the disk of a.hpb failed. All that was answered by OK is kept. See to the disk first. If it is full, make room, and the same file goes on. If it breaks, copy a.hpb to another disk, and use the copy. Then go on by `hpb serve --file a.hpb --port 5000 --sessions 8`, and send again, in their order, the commands that were answered by 93, or not at all: one that was kept gets its old number, or 13 if its sender has a later one that was kept";
 
 const UNSAID: &str =
     "writing: nothing more was taken. All sessions have ended, and all that was answered by OK is kept. See a.hpb by `hpb check --file a.hpb`";
@@ -256,11 +256,14 @@ fn places_and_their_ends_are_told(rt: HostRuntime) -> Result<(), Fail> {
 }
 
 const SPOILED: &str =
-    "a.hpb was cut, made longer or overwritten while it was served, and may lack commands that got OK. See it by `hpb check --file a.hpb`, go back to your newest backup, and send again, in their order, the commands since then";
+    "a.hpb was cut, made longer or overwritten while it was in use, and may lack commands that got OK. See it by `hpb check --file a.hpb`, go back to your newest backup, and send again, in their order, the commands since then";
 
 #[test]
 fn a_file_that_others_wrote_is_told_at_the_end(rt: HostRuntime) -> Result<(), Fail> {
-    let advice = SpoiledAdvice(known_of_serving());
+    let advice = MeddlingAdvice {
+        known: known_of_serving(),
+        meddling: Meddling::Spoiled,
+    };
     assert_eq!(rt; format!(in rt.alloc(); "{advice}")?.as_str(), SPOILED);
     Ok(())
 }

@@ -17,7 +17,7 @@ use Rattle.hpb_server.specs.Streams.{AreKept, Streams}
 use Rattle.hpb_server.specs.Telling.{ExplainsAt}
 use Rattle.hpb_messages.specs.declared.job_fault.JobFault.{JobFault}
 use Rattle.hpb_messages.specs.declared.job_fault.JobFault.TheVariants as faults
-use Rattle.hpb_messages.specs.declared.run_end.RunEnd.{RunEnd}
+use Rattle.hpb_program.specs.declared.keeping.FileRun.{FileRun}
 use Rattle.hpb_program.specs.ConsoleValue.{ConsoleValue}
 use Rattle.hpb_program.specs.Doubts.{TellsIll, TellsImage, TellsStopped}
 use Rattle.hpb_program.specs.Jobs.{IsKept}
@@ -50,9 +50,9 @@ TellsRunning is_terminal image errors_old errors_new (Err fault) = TellsStopped 
 
 -- An auction was run by the contents of a file, about which only the doubts are known, since they were reported before.
 -- Or the file was not opened, and nothing was read or written.
-abbrev pub RunsFile : (before after : ConsoleValue) → Result RunEnd JobFault → Type 0
-RunsFile before after (Ok end) =
+abbrev pub RunsFile : (before after : ConsoleValue) → Result FileRun JobFault → Type 0
+RunsFile before after (Ok run) =
     (opened : FileDisk) × (disk : FileDisk) × (progress : Progress)
-    × IsRun (file_device opened) before.streams after.streams (record { device = file_device disk; progress = progress; failed = end.failed }) end.end
-    × TellsRunning before.is_terminal (file_device opened).seen before.errors after.errors (Ok end)
+    × IsRun (file_device opened) before.streams after.streams (record { device = file_device disk; progress = progress; failed = run.ended.failed }) run.ended.end
+    × TellsRunning before.is_terminal (file_device opened).seen before.errors after.errors (Ok run)
 RunsFile before after (Err fault) = IsOfOpening fault × AreKept before.streams after.streams × TellsIll before.errors after.errors fault

@@ -1,5 +1,5 @@
 -- The program's use of its streams, and its status.
-use Rattle.std.specs.Prelude.{◌≡◌, ℕ, Bool, true, false, List, [], Option, Result, Ok, Err, ⊤, ◌⊎◌, ◌||◌, string_bytes}
+use Rattle.std.specs.Prelude.{◌≡◌, ℕ, Bool, true, false, List, [], Option, None, Some, Result, Ok, Err, ⊤, ◌⊎◌, ◌||◌, string_bytes}
 use Rattle.std.specs.Io.KnownBytes.{Keeps}
 use Rattle.hpb_server.specs.declared.fault.SessionFault.{SessionFault}
 use Rattle.hpb_server.specs.declared.script.ScriptEnd.{ScriptEnd}
@@ -11,7 +11,8 @@ use Rattle.hpb_words.specs.declared.words.WordsFault.{WordsFault}
 use Rattle.hpb_words.specs.declared.words.WordsFault.TheVariants.{Memory, Refused}
 use Rattle.hpb_messages.specs.declared.job_fault.JobFault.{JobFault}
 use Rattle.hpb_messages.specs.declared.job_fault.JobFault.TheVariants as faults
-use Rattle.hpb_messages.specs.declared.run_end.RunEnd.{RunEnd}
+use Rattle.hpb_messages.specs.declared.advice.Meddling.{Meddling}
+use Rattle.hpb_program.specs.declared.keeping.FileRun.{FileRun}
 use Rattle.hpb_program.specs.declared.serving.FileEnd.{FileEnd}
 use Rattle.hpb_program.specs.declared.led.Led.{Led}
 use Rattle.hpb_program.specs.ConsoleValue.{ConsoleValue}
@@ -63,11 +64,11 @@ TellsEnded errors_old errors_new (Ok done) false status = Keeps errors_old error
 TellsEnded errors_old errors_new (Ok done) true status = TellsOf errors_old errors_new refusals.Device × (status ≡ ILL)
 TellsEnded errors_old errors_new (Err fault) failed status = TellsOf errors_old errors_new (sessions.refusal_of fault) × (status ≡ ILL)
 
--- The same if somebody else may have cut, lengthened or written the file meanwhile. If that was seen, it is reported
--- behind the rest, and the status is 1 in any case.
-abbrev pub TellsBeside : (errors_old errors_new : Option (List ℕ)) → (is_spoiled : Bool) → Result ⊤ SessionFault → (has_failed : Bool) → ℕ → Type 0
-TellsBeside errors_old errors_new false end failed status = TellsEnded errors_old errors_new end failed status
-TellsBeside errors_old errors_new true end failed status =
+-- The same if somebody else may have meddled with the file meanwhile. If that was seen, it is reported behind the rest,
+-- and the status is 1 in any case.
+abbrev pub TellsBeside : (errors_old errors_new : Option (List ℕ)) → Option Meddling → Result ⊤ SessionFault → (has_failed : Bool) → ℕ → Type 0
+TellsBeside errors_old errors_new None end failed status = TellsEnded errors_old errors_new end failed status
+TellsBeside errors_old errors_new (Some meddling) end failed status =
     (errors_told : Option (List ℕ)) × (ended : ℕ) × TellsEnded errors_old errors_told end failed ended × TellsOf errors_told errors_new refusals.Device × (status ≡ ILL)
 
 module _ (before after : ConsoleValue) where
@@ -86,13 +87,13 @@ module _ (before after : ConsoleValue) where
 
   -- The report of how a run of a file ended, on both outputs, and its status. Once it has begun, the output gets nothing
   -- more.
-  abbrev pub TellsRun : Result RunEnd JobFault → ℕ → Type 0
-  TellsRun (Ok end) status = AreKept before.streams after.streams × TellsEnded before.errors after.errors end.end end.failed status
+  abbrev pub TellsRun : Result FileRun JobFault → ℕ → Type 0
+  TellsRun (Ok run) status = AreKept before.streams after.streams × TellsBeside before.errors after.errors run.meddling run.ended.end run.ended.failed status
   TellsRun (Err fault) status = TellsFault fault status
 
   -- The same if a file was served. Its last line counts as not written if and only if the output was cut.
   abbrev pub TellsServed : Result FileEnd JobFault → ℕ → Type 0
-  TellsServed (Ok end) status = AreKept before.streams after.streams × IsTaken after.is_cut end.said × TellsBeside before.errors after.errors end.is_spoiled end.said end.has_failed status
+  TellsServed (Ok end) status = AreKept before.streams after.streams × IsTaken after.is_cut end.said × TellsBeside before.errors after.errors end.meddling end.said end.has_failed status
   TellsServed (Err fault) status = TellsFault fault status
 
 -- The effect of a job on the standard streams, and its status. Doubts about the file are reported first. The output may
@@ -107,7 +108,7 @@ RunsJob (Format file journal) before after status =
 RunsJob (Check file) before after status =
     (shown : ConsoleValue) × (end : Result ⊤ JobFault) × Checks before shown end × (shown.streams.remaining ≡ before.streams.remaining)
     × TellsEnd shown after end status
-RunsJob (Run file batch every) before after status = (done : ConsoleValue) × (end : Result RunEnd JobFault) × RunsFile before done end × TellsRun done after end status
+RunsJob (Run file batch every) before after status = (done : ConsoleValue) × (end : Result FileRun JobFault) × RunsFile before done end × TellsRun done after end status
 RunsJob (Serve file port sessions) before after status =
     (served : ConsoleValue) × (end : Result FileEnd JobFault) × ServesFile (record { port = port; sessions = sessions }) before.streams.contents served.streams.contents end
     × TellsServing before.errors served.errors end × (served.streams.remaining ≡ before.streams.remaining) × TellsServed served after end status

@@ -10,32 +10,49 @@ ghost use Rattle.hpb_program.specs.Keeping.{IsNotOpened, IsRun, RunsFile, TellsR
 ghost use Rattle.hpb_server.specs.Streams.{AreKept};
 
 use crate::console::Console;
+use crate::meddling::meddling_of;
 use crate::opening::open_kept;
-use hpb_disk::{Disk, FileDisk};
+use hpb_disk::{Disk, FileDisk, FileFault};
 use hpb_engine::Engine;
-use hpb_messages::{JobFault, RunEnd};
+use hpb_messages::{JobFault, Meddling, RunEnd};
 use hpb_run::{Pace, Ran, Session, run_engine};
 use std::alloc::Global;
 use std::fs::{File, Files};
 use std::io::{Read, Write};
 
-/// Answers the lines of the input by the auction that the file of a path keeps, as `run_kept` does.
+/// The end of a run of a file that had begun.
+#[derive(Clone, Copy, Debug)]
+pub struct FileRun {
+    pub ended: RunEnd,
+    /// What somebody else was seen to have done to the file when the run ended.
+    pub meddling: Option<Meddling>,
+}
+
+/// Answers the lines of the input by the auction that the file of a path keeps, as `run_kept` does. At the end it looks
+/// whether somebody else has meddled with the file.
 pub(crate) fn run_file<H: Files<File = File>, R: Read, W: Write, E: Write>(
     rt: &H,
     alloc: Global,
     file: &str,
     pace: Pace,
     console: &mut Console<R, W, E>,
-) -> Result<RunEnd, JobFault>
+) -> Result<FileRun, JobFault>
     ensures runs { RunsFile console.old console.new result }
 {
     let disk = FileDisk::open(rt, alloc, file)?;
+    let stamp = match disk.stamp() {
+        Ok(stamp) => stamp,
+        Err(error) => return Err(JobFault::from(FileFault::from(error))),
+    };
     let ran = run_kept(alloc, disk, pace, console)?;
     let Ran { engine, end } = ran;
-    Ok(RunEnd {
-        end,
-        failed: engine.failed,
-        code: engine.disk.code(),
+    Ok(FileRun {
+        ended: RunEnd {
+            end,
+            failed: engine.failed,
+            code: engine.disk.code(),
+        },
+        meddling: meddling_of(rt, file, &stamp, &engine.disk),
     })
 }
 

@@ -9,6 +9,7 @@ mod keeping;
 mod laws;
 mod led;
 mod lookout;
+mod meddling;
 mod opening;
 mod relay;
 mod running;

@@ -3,7 +3,7 @@
 use crate::relay::Relay;
 use hpb_disk::{FileDisk, FileFault};
 use hpb_messages::{
-    Change, ChangeNotice, Ending, FailedNotice, PlaceNotice, PlaceState, SeatNotice,
+    Change, ChangeNotice, Ending, FailedNotice, Meddling, PlaceNotice, PlaceState, SeatNotice,
 };
 use hpb_serve::{EndCause, Place, Watch};
 use std::alloc::{AllocError, Global};
@@ -96,9 +96,12 @@ impl<'a> Lookout<'a> {
 }
 
 impl Lookout<'_> {
-    /// Whether somebody else was seen to have cut the file, made it longer or written it since it was opened.
-    pub(crate) fn is_spoiled(&self) -> bool {
-        self.is_spoiled.load(Ordering::SeqCst)
+    /// What somebody else was seen to have done to the file's bytes or length since it was opened.
+    pub(crate) fn meddling(&self) -> Option<Meddling> {
+        if self.is_spoiled.load(Ordering::SeqCst) {
+            return Some(Meddling::Spoiled);
+        }
+        None
     }
 
     /// Sends a notice, once, that somebody else has cut the file, made it longer or written it.

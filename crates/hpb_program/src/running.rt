@@ -10,13 +10,13 @@ ghost use Rattle.hpb_server.specs.Telling.{Says, TellsOf};
 use crate::checking::run_check;
 use crate::console::Console;
 use crate::formatting::run_format;
-use crate::keeping::run_file;
+use crate::keeping::{FileRun, run_file};
 use crate::led::Led;
 use crate::serving::{FileEnd, Seats, serve_file};
 use crate::streams::{advise_led, advise_unled, say_unled, tell_memory_unled, tell_unled};
 use hpb_messages::{
-    EndAdvice, Failures, JobAdvice, JobFault, Known, Noted, RunEnd, ScriptAdvice, SpoiledAdvice,
-    StreamsAdvice, advise, hint, known_of, tell_job,
+    EndAdvice, Failures, JobAdvice, JobFault, Known, Meddling, MeddlingAdvice, Noted, RunEnd,
+    ScriptAdvice, StreamsAdvice, advise, hint, known_of, tell_job,
 };
 use hpb_rules::Refusal;
 use hpb_run::Pace;
@@ -254,14 +254,16 @@ fn tell_fault<R: Read, W: Write, E: Write>(
 fn tell_run<R: Read, W: Write, E: Write>(
     alloc: Global,
     known: Known<'_>,
-    end: Result<RunEnd, JobFault>,
+    end: Result<FileRun, JobFault>,
     console: &mut Console<R, W, E>,
 ) -> u8
     ensures status { result ≤ WRONG_WORDS }
     ensures told { TellsRun console.old console.new end result }
 {
     match end {
-        Ok(end) => tell_ended(alloc, end, known, &mut console.errors),
+        Ok(FileRun { ended, meddling }) => {
+            tell_begun(alloc, known, ended, meddling, &mut console.errors)
+        }
         Err(fault) => tell_fault(alloc, known, fault, console),
     }
 }
@@ -278,27 +280,40 @@ fn tell_served<R: Read, W: Write, E: Write>(
     ensures told { TellsServed console.old console.new end result }
 {
     match end {
-        Ok(end) => tell_closed(alloc, known, &end, &mut console.errors),
+        Ok(end) => {
+            let ended = RunEnd {
+                end: end.said,
+                failed: end.has_failed,
+                code: end.code,
+            };
+            tell_begun(alloc, known, ended, end.meddling, &mut console.errors)
+        }
         Err(fault) => tell_fault(alloc, known, fault, console),
     }
 }
 
-/// Reports on `errors` how serving that had begun ended, and then whether somebody else has written the file meanwhile.
-/// Gives the program's status.
-fn tell_closed<E: Write>(alloc: Global, known: Known<'_>, end: &FileEnd, errors: &mut E) -> u8
+/// Reports on `errors` how a run or serving that had begun ended, and then whether somebody else has meddled with the
+/// file meanwhile. Gives the program's status.
+fn tell_begun<E: Write>(
+    alloc: Global,
+    known: Known<'_>,
+    ended: RunEnd,
+    meddling: Option<Meddling>,
+    errors: &mut E,
+) -> u8
     ensures status { result ≤ WRONG_WORDS }
-    ensures told { TellsBeside (E.contents errors.old) (E.contents errors.new) end.now.is_spoiled end.now.said end.now.has_failed result }
+    ensures told { TellsBeside (E.contents errors.old) (E.contents errors.new) meddling ended.end ended.failed result }
 {
-    let ended = RunEnd {
-        end: end.said,
-        failed: end.has_failed,
-        code: end.code,
-    };
     let status = tell_ended(alloc, ended, known, errors);
-    if !end.is_spoiled {
+    let Some(meddling) = meddling else {
         return status;
-    }
-    advise(alloc, Refusal::Device, SpoiledAdvice(known), errors);
+    };
+    advise(
+        alloc,
+        Refusal::Device,
+        MeddlingAdvice { known, meddling },
+        errors,
+    );
     ILL
 }
 

@@ -15,7 +15,7 @@ use crate::relay::Relay;
 use hpb_auction::Auction;
 use hpb_disk::{Disk, FileDisk};
 use hpb_house::{Closing, StartCause};
-use hpb_messages::{JobFault, Noted};
+use hpb_messages::{JobFault, Meddling, Noted};
 use hpb_rings::Report;
 use hpb_serve::{Port, ServeFault, Served, Unwatched, Watch, serve_opened};
 use hpb_server::SessionFault;
@@ -67,8 +67,8 @@ pub struct FileEnd {
     pub has_failed: bool,
     /// The system's number of the write or the sync that failed, if the system gave one.
     pub code: Option<i32>,
-    /// Whether somebody else was seen to have cut the file, made it longer or written it while it was served.
-    pub is_spoiled: bool,
+    /// What somebody else was seen to have done to the file's bytes or length while it was served.
+    pub meddling: Option<Meddling>,
     /// The report of each session's client, from seat 0 on.
     pub reports: Vec<Report>,
     /// Whether the last line was written.
@@ -134,7 +134,7 @@ pub(crate) fn serve_file<
         ..
     } = closing;
     let code = disk.code();
-    let is_spoiled = lookout.is_spoiled();
+    let meddling = lookout.meddling();
     // Anyone who reads the last line may open the file, so it is closed first.
     drop(disk);
     match say_closed(room, auction.count(), &mut console.output) {
@@ -144,7 +144,7 @@ pub(crate) fn serve_file<
             auction,
             has_failed,
             code,
-            is_spoiled,
+            meddling,
             reports,
             said,
         }),

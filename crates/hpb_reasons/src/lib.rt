@@ -16,6 +16,3 @@ mod tree;
 mod written;
 
 pub use telling::{Explanation, NOTHING_FOUND, reason};
-
-#[cfg(test)]
-mod tests;

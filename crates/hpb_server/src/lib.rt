@@ -22,6 +22,3 @@ pub use script::{ScriptEnd, run_script, serve_auction};
 pub use serving::serve;
 pub use telling::{say, tell_people};
 pub use terminal::serve_at_terminal;
-
-#[cfg(test)]
-mod tests;

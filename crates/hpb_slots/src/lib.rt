@@ -10,8 +10,6 @@ mod limits;
 mod newest;
 mod reading;
 mod slot;
-#[cfg(test)]
-mod tests;
 mod writing;
 
 pub use laws::{chunks_are_whole, holds_one, newest_is_one, open_or_closed, slots_stay};

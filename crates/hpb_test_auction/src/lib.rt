@@ -15,6 +15,8 @@ mod memory;
 #[cfg(test)]
 mod rows_of_causes;
 #[cfg(test)]
+mod rows_of_desks;
+#[cfg(test)]
 mod rows_of_doubts;
 #[cfg(test)]
 mod rows_of_formatting;
@@ -25,6 +27,12 @@ mod rows_of_journals;
 #[cfg(test)]
 mod rows_of_opening;
 #[cfg(test)]
+mod rows_of_reasons;
+#[cfg(test)]
 mod rows_of_saved;
 #[cfg(test)]
+mod rows_of_streams;
+#[cfg(test)]
 mod rows_of_sums;
+#[cfg(test)]
+mod talks;

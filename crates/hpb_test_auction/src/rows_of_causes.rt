@@ -1,9 +1,12 @@
-//! The flaws of a device, in the words of `ERR` lines.
+//! The faults of a definition, a session and a device, in the words of `ERR` lines.
 
+use hpb_define::DefineCause;
 use hpb_disk::DiskFailed;
 use hpb_format::FormatCause;
 use hpb_recover::{Cause, Flaw};
 use hpb_rules::Refusal;
+use hpb_server::SessionFault;
+use hpb_tree::DefinitionFault;
 use std::alloc::{AllocError, Global};
 use std::fmt::Display;
 use std::test::Fail;
@@ -12,6 +15,29 @@ use std::test::Fail;
 fn is_told(alloc: Global, cause: &impl Display, refusal: Refusal) -> Result<bool, AllocError> {
     Ok(cause.to_string(alloc)?.as_str() == refusal.word())
 }
+
+const DEFINE_CAUSES: [DefineCause; 14] = [
+    DefineCause::Memory,
+    DefineCause::Json,
+    DefineCause::Field,
+    DefineCause::Number,
+    DefineCause::Refused(DefinitionFault::Memory),
+    DefineCause::Refused(DefinitionFault::Number),
+    DefineCause::Refused(DefinitionFault::Empty),
+    DefineCause::Refused(DefinitionFault::Name),
+    DefineCause::Refused(DefinitionFault::Duplicate),
+    DefineCause::Refused(DefinitionFault::Parent),
+    DefineCause::Refused(DefinitionFault::Children),
+    DefineCause::Refused(DefinitionFault::Leaf),
+    DefineCause::Refused(DefinitionFault::Limits),
+    DefineCause::Refused(DefinitionFault::Terms),
+];
+
+const SESSION_FAULTS: [SessionFault; 3] = [
+    SessionFault::Memory,
+    SessionFault::Reader,
+    SessionFault::Writer,
+];
 
 const CAUSES: [Cause; 6] = [
     Cause::Flawed(Flaw::Unformatted),
@@ -32,6 +58,12 @@ const FORMAT_CAUSES: [FormatCause; 4] = [
 #[test]
 fn causes_have_the_words_of_their_refusals(rt: HostRuntime) -> Result<(), Fail> {
     let alloc = rt.alloc();
+    for cause in DEFINE_CAUSES {
+        assert!(rt; is_told(alloc, &cause, cause.refusal())?, "{cause:?}");
+    }
+    for fault in SESSION_FAULTS {
+        assert!(rt; is_told(alloc, &fault, fault.refusal())?, "{fault:?}");
+    }
     for cause in CAUSES {
         assert!(rt; is_told(alloc, &cause, cause.refusal())?, "{cause:?}");
     }

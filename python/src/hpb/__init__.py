@@ -16,6 +16,7 @@ if TYPE_CHECKING:
     from hpb.refusals import FrontRefused, HpbError, Refused
     from hpb.rounds import Agreed, AskFront, News, NoNews, Previewed, Prospect, ReadUpTo, Schedule
 
+__version__ = "0.1.0"
 __all__ = [
     "Accepted", "Agreed", "AskFront", "AskNode", "AskWho", "AsyncClient", "Bid", "Client", "Close", "Command", "Ended", "FrontRefused",
     "HpbError", "News", "NoNews", "NodeShown", "NotWelcome", "Outcome", "Previewed", "Prospect", "ReadUpTo", "Refused", "Schedule", "Show",

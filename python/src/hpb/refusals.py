@@ -288,6 +288,7 @@ class FrontRefused(HpbError):
         "second": "this close would end the auction, and no second name has agreed",
         "unknown": "it isn't known",
         "running": "the auction isn't over yet",
+        "unsealed": "no close has sealed it yet",
     }
 
     def __init__(self, word: str) -> None:

@@ -4,9 +4,13 @@
 """
 import re
 from dataclasses import dataclass
-from typing import TypeAlias
+from typing import Final, TypeAlias
 
 from hpb.limits import NAME
+
+# The word that a front's greeting ends with if its auction is a mock, and the sentence for people.
+MOCK: Final = "MOCK"
+NOTICE: Final = "MOCK auction: a rehearsal. Nothing of it counts."
 
 
 @dataclass(frozen=True, slots=True)
@@ -107,7 +111,23 @@ class InformationShown:
     has_revenue: bool
 
 
-FrontAnswer: TypeAlias = Schedule | News | NoNews | ReadUpTo | Agreed | Previewed | Prospect | InformationShown
+@dataclass(frozen=True, slots=True)
+class SealShown:
+    """The answer to `SEAL`: a seal's number, and the whole answer, which `hpb-verify --seals` takes (docs/VERIFY.md)."""
+
+    number: int
+    text: str
+
+
+@dataclass(frozen=True, slots=True)
+class ReceiptGiven:
+    """The answer to `RECEIPT`: a command's number, and its receipt in JSON, which `hpb-verify --receipt` takes."""
+
+    number: int
+    text: str
+
+
+FrontAnswer: TypeAlias = Schedule | News | NoNews | ReadUpTo | Agreed | Previewed | Prospect | InformationShown | SealShown | ReceiptGiven
 
 _WHOLE, _NAME, _TIME = r"(0|[1-9][0-9]{0,19})", NAME.pattern, r"([0-9]{4}-[0-9]{2}-[0-9]{2}T[0-9]{2}:[0-9]{2}:[0-9]{2}Z)"
 _SCHEDULE = re.compile(rf"SCHEDULE ROUND {_WHOLE} STATE ([a-z]+) OPENS (?:-|{_TIME}) UNTIL (?:-|{_TIME}) LEFT {_WHOLE} NOW {_TIME}")
@@ -118,6 +138,8 @@ _PROSPECT = re.compile(
     rf"PREVIEW ({_NAME}) ELIGIBILITY {_WHOLE} ACTIVITY {_WHOLE} SHORT {_WHOLE} WAIVER (own|auto|none) AFTER {_WHOLE}"
 )
 
+_SEAL = re.compile(r"SEAL ([1-9][0-9]{0,9}) AT .* SIGNED [0-9a-f]{128}( .*)?")
+_RECEIPT = re.compile(r"RECEIPT ([1-9][0-9]{0,6}) (\{.*\})")
 _INFORMATION = re.compile(r"INFORMATION (running|unveiled) IDENTITIES (all|own|none) COUNT (exact|closes) REVENUE (yes|no)")
 
 
@@ -140,6 +162,10 @@ def parse_front_answer(text: str) -> FrontAnswer | None:
         return Prospect(found[1], int(found[2]), int(found[3]), int(found[4]), found[5], int(found[6]))
     if found := _INFORMATION.fullmatch(text):
         return InformationShown(found[1], found[2], found[3] == "exact", found[4] == "yes")
+    if found := _SEAL.fullmatch(text):
+        return SealShown(int(found[1]), text)
+    if found := _RECEIPT.fullmatch(text):
+        return ReceiptGiven(int(found[1]), found[2])
     return None
 
 
@@ -164,3 +190,7 @@ def format_front_answer(answer: FrontAnswer) -> str:
         case InformationShown(phase, identities, is_count_exact, has_revenue):
             count = "exact" if is_count_exact else "closes"
             return f"INFORMATION {phase} IDENTITIES {identities} COUNT {count} REVENUE {'yes' if has_revenue else 'no'}"
+        case SealShown(_, text):
+            return text
+        case ReceiptGiven(number, text):
+            return f"RECEIPT {number} {text}"

@@ -45,8 +45,10 @@ class Thread:
     def start(self) -> "Thread":
         """Waits until it has begun. A RuntimeError says that the system gives no thread, or that it doesn't begin."""
         self.launch()
-        if not self.begun.acquire(timeout=BEGIN_SECONDS):
-            raise RuntimeError("a new thread doesn't begin")
+        end = time.monotonic() + BEGIN_SECONDS
+        while not self.begun.acquire(timeout=min(LOOK_SECONDS, BEGIN_SECONDS)):
+            if self.has_ended or time.monotonic() > end:
+                raise RuntimeError("a new thread doesn't begin")
         free(self.begun)
         return self
 
@@ -56,9 +58,14 @@ class Thread:
         _thread.start_new_thread(self._run, ())
         return self
 
+    def look(self, name: str) -> None:
+        """Raises a RuntimeError if it has ended. Memory may have been refused to every report of that, or to its first call."""
+        if self.has_ended:
+            raise RuntimeError(f"the thread of {name} has ended")
+
     def _run(self) -> None:
-        self.begun.release()
         try:
+            self.begun.release()
             self.run()
         finally:
             self.has_ended = True
@@ -212,20 +219,27 @@ async def in_thread(call: Callable[[], Result]) -> Result:
     return await job.wait(Thread(lambda: job.do(lambda _: call())).launch())
 
 
-def keeper(work: Callable[[], None], pause: float) -> Thread:
-    """A thread that does the work again and again. Whatever fails, it goes on after a pause, of so many seconds. The thread asks for no
-    memory before it can go on after a refusal: the work is a call that is made already."""
-    return Thread(lambda: keep(work, pause))
+class Keeper(Thread):
+    """A thread that does the work again and again. Once it has begun no failure ends it: it goes on after a pause, of so many seconds. The
+    thread asks for no memory before it can go on after a refusal: the work is a call that is made already."""
 
+    def __init__(self, work: Callable[[], None], pause: float) -> None:
+        super().__init__(work)
+        self.pause = pause
 
-def keep(work: Callable[[], None], pause: float) -> None:
-    """Does the work again and again, in the thread of a `keeper`."""
-    has_failed = False
-    while True:
+    def _run(self) -> None:
+        has_begun = has_failed = False
         try:
-            if has_failed:
-                held_lock().acquire(timeout=pause)
-                has_failed = False
-            work()
-        except Exception:
-            has_failed = True
+            while True:
+                try:
+                    if not has_begun:
+                        self.begun.release()
+                        has_begun = True
+                    if has_failed:
+                        held_lock().acquire(timeout=self.pause)
+                        has_failed = False
+                    self.run()
+                except Exception:
+                    has_failed = True
+        finally:
+            self.has_ended = True

@@ -42,8 +42,9 @@ class AsyncClient:
         tickets: str | os.PathLike[str] | None = None,
         timeout: float = 150.0,
         silence: float = 60.0,
+        mock: bool | None = None,
     ) -> None:
-        self._calls = Calls(settings(host, port, tuple(others), token, ca, plain, timeout, silence), tickets)
+        self._calls = Calls(settings(host, port, tuple(others), token, ca, plain, timeout, silence, mock), tickets)
         self._writer: asyncio.StreamWriter | None = None
         self._task: asyncio.Task[None] | None = None
         self._wanted = asyncio.Event()
@@ -71,6 +72,10 @@ class AsyncClient:
         self._perform()
         if self._calls.tickets:
             self._calls.tickets.close()
+
+    def is_mock(self) -> bool | None:
+        """Whether the front said that its auction is a mock; None before its first greeting."""
+        return self._calls.core.is_mock
 
     # Commands.
 
@@ -174,6 +179,20 @@ class AsyncClient:
         except StopIteration as found:
             view: View | None = found.value
             return view
+
+    # Lines as they stand.
+
+    def name(self) -> str:
+        """The name by which a front knows the token; empty before its first welcome."""
+        return self._calls.core.name
+
+    async def ask(self, lines: Sequence[str]) -> list[Answer | HpbError]:
+        """The outcome of each of these lines, in their order. No refusal is raised.
+
+        A line without an answer is sent again as it stands, over the next connection. So a command needs its own ticket, by which it counts
+        once. Don't send commands of the same sender by other calls meanwhile.
+        """
+        return await self._asked([AskFront(line) for line in lines])
 
     # Input and output.
 

@@ -21,7 +21,7 @@ class Calls:
         self.settings = known
         self.turns = Turns(known.addresses)
         self.tickets = TicketFile(tickets) if tickets is not None else None
-        self.core = Core(known.token, self.tickets.known() if self.tickets else ())
+        self.core = Core(known.token, self.tickets.known() if self.tickets else (), known.is_mock)
         self.outcomes: dict[int, Answer | HpbError] = {}
         self.wanted: set[int] = set()
         self.reason = ""

@@ -18,6 +18,7 @@ from hpb.lines import (
     format_answer, format_line, numbered, parse_answer,
 )
 from hpb.refusals import FrontRefused, HpbError, Refused
+from hpb.rounds import MOCK
 
 # After so many refusals of a command's tickets for no known reason, the refusal is its answer: somebody else must be sending under the
 # same name.
@@ -82,9 +83,11 @@ def check_line(line: Line) -> None:
 class Core:
     """A client's state. Report events by `ask`, `abandon`, `connected`, `received` and `lost`; then do what `effects` returns."""
 
-    def __init__(self, token: str | None = None, known: Iterable[tuple[str | None, int]] = ()) -> None:
-        """`known` has the last used ticket of each bidder, as far as a file of tickets has it."""
-        self._token = token
+    def __init__(self, token: str | None = None, known: Iterable[tuple[str | None, int]] = (), is_mock: bool | None = None) -> None:
+        """`known` has the last used ticket of each bidder, as far as a file of tickets has it. `is_mock` says which kind of auction it has
+        to be: a mock, or none. If it is None, the first greeting says it.
+        """
+        self._token, self.is_mock = token, is_mock
         self._numbers = itertools.count(1)
         self._rows: dict[str | None, Row] = {}
         for bidder, last in known:
@@ -94,6 +97,8 @@ class Core:
         self._effects: list[Effect] = []
         self._rest = b""
         self._is_connected = self._is_ready = False
+        # The name that a front knows the token by; empty until it has said so.
+        self.name = ""
 
     # Events.
 
@@ -253,7 +258,8 @@ class Core:
 
     def _take_welcome(self, text: str) -> None:
         if text.startswith("WELCOME "):
-            self._is_ready = True
+            self.name = text.removeprefix("WELCOME ").removesuffix(f" {MOCK}")
+            self._take_kind(text.endswith(f" {MOCK}"))
             return
         is_fatal = text not in [f"ERR front {word}" for word in _ENDS]
         reason = f"the token is answered {text[:100]!r}"
@@ -261,6 +267,13 @@ class Core:
             self._end_for_good(reason)
         else:
             self._drop(reason)
+
+    def _take_kind(self, says_mock: bool) -> None:
+        """A line that was meant for a mock never goes to the auction itself, nor the other way round."""
+        if self.is_mock not in (None, says_mock):
+            self._end_for_good("this front's auction is a mock, and the client's is none" if says_mock else "this front's auction is no mock")
+            return
+        self._is_ready, self.is_mock = True, says_mock
 
     def _end_for_good(self, reason: str) -> None:
         self._drop(reason, is_fatal=True)

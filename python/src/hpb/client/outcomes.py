@@ -17,7 +17,8 @@ class Unanswered(HpbError):
 
 
 class NotWelcome(HpbError):
-    """The front doesn't know the token, or not any more, or the certificate isn't trusted. Trying again can't help.
+    """The front doesn't know the token, or not any more, or the certificate isn't trusted, or its auction is a mock and shouldn't be, or the
+    other way round. Trying again can't help.
 
     If the token went while the client was connected, commands that were sent may be accepted or not.
     """

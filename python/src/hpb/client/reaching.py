@@ -24,6 +24,8 @@ class Settings:
     - `timeout`: how long a call waits in all.
     - `silence`: how long the other end may owe an answer before the connection counts as lost.
     - `connecting`: how long making a connection may take.
+
+    `is_mock` says whether the auction has to be a mock, or none; None takes either.
     """
 
     addresses: tuple[tuple[str, int], ...]
@@ -32,6 +34,7 @@ class Settings:
     timeout: float = 150.0
     silence: float = 60.0
     connecting: float = 10.0
+    is_mock: bool | None = None
 
 
 def settings(
@@ -43,6 +46,7 @@ def settings(
     plain: bool = False,
     timeout: float = 150.0,
     silence: float = 60.0,
+    mock: bool | None = None,
 ) -> Settings:
     """The settings for a client's arguments. With a token everything goes over TLS, unless `plain` is set. `ca` is the certificate
     to trust (default: those that the system trusts). If the arguments don't fit together, ValueError is raised; if `ca` can't be
@@ -52,6 +56,8 @@ def settings(
         raise ValueError("a token has 16 to 128 characters, none of them a space")
     if plain and ca is not None:
         raise ValueError("`ca` is for TLS, and `plain` is without")
+    if mock is not None and token is None:
+        raise ValueError("`mock` is for a front, and so goes with `token`")
     for where in ((host, port), *others):
         if not may_be_host(where[0]):
             raise ValueError(f"{where[0]!r} is no host")
@@ -59,7 +65,7 @@ def settings(
             raise ValueError(f"{where[1]} is no port")
     is_tls = not plain and (token is not None or ca is not None)
     context = ssl.create_default_context(cafile=ca) if is_tls else None
-    return Settings(((host, port), *others), token, context, timeout, silence)
+    return Settings(((host, port), *others), token, context, timeout, silence, is_mock=mock)
 
 
 def read_token(path: str | os.PathLike[str], name: str | None = None) -> str:

@@ -35,12 +35,13 @@ class Client:
     - `tickets`: a file of its own, by which it knows after a crash which commands it had sent.
     - `timeout`: how many seconds a call waits in all.
     - `silence`: after how many seconds without an answer a connection counts as lost.
+    - `mock`: True is for a mock alone, and False for an auction that is none. If it isn't given, the first greeting counts.
 
     Each call may raise:
 
     - a refusal (`hpb.Refused`, `hpb.FrontRefused`);
     - `Unanswered`, if no answer came in time;
-    - `NotWelcome`, if the token or the certificate is wrong;
+    - `NotWelcome`, if the token or the certificate is wrong, or if the auction is a mock and shouldn't be, or the other way round;
     - ValueError, if a word or a number can't be sent.
     """
 
@@ -56,8 +57,9 @@ class Client:
         tickets: str | os.PathLike[str] | None = None,
         timeout: float = 150.0,
         silence: float = 60.0,
+        mock: bool | None = None,
     ) -> None:
-        self._calls = Calls(settings(host, port, tuple(others), token, ca, plain, timeout, silence), tickets)
+        self._calls = Calls(settings(host, port, tuple(others), token, ca, plain, timeout, silence, mock), tickets)
         self._connection: socket.socket | None = None
         self._has_ended = False
         self._heard = 0.0
@@ -76,6 +78,10 @@ class Client:
             if self._calls.tickets and not self._has_ended:
                 self._calls.tickets.close()
             self._has_ended = True
+
+    def is_mock(self) -> bool | None:
+        """Whether the front said that its auction is a mock; None before its first greeting."""
+        return self._calls.core.is_mock
 
     # Commands.
 
@@ -179,6 +185,20 @@ class Client:
         except StopIteration as found:
             view: View | None = found.value
             return view
+
+    # Lines as they stand.
+
+    def name(self) -> str:
+        """The name by which a front knows the token; empty before its first welcome."""
+        return self._calls.core.name
+
+    def ask(self, lines: Sequence[str]) -> list[Answer | HpbError]:
+        """The outcome of each of these lines, in their order. No refusal is raised.
+
+        A line without an answer is sent again as it stands, over the next connection. So a command needs its own ticket, by which it counts
+        once. Don't send commands of the same sender by other calls meanwhile.
+        """
+        return self._asked([AskFront(line) for line in lines])
 
     # Input and output.
 

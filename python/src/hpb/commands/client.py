@@ -8,7 +8,8 @@
 It connects when the first line comes. If the connection is lost, it connects again for up to a minute, says the token again, and
 sends the line that has no answer again. A command's ticket makes sure that it is accepted once; a repeat gets the same number. If
 its tries fail for more than two seconds, standard error says so, once for each line. On a terminal, all but the printable
-characters of ASCII are escaped.
+characters of ASCII are escaped. If the auction is a mock, standard error says so. It sends no line that was begun at a mock to the auction
+itself.
 
 The status is:
 
@@ -30,6 +31,7 @@ from hpb.commands import parser
 from hpb.commands.shell import from_shell, say
 from hpb.pages.reaching import ENDS, TAKEN_AWAY, GivesUp, add_options, connected, context_of, look_at_options, read_place, read_token
 from hpb.plain import plain
+from hpb.rounds import NOTICE
 from hpb.streams import STANDARD_INPUT, STANDARD_OUTPUT, lines_of, write_all
 
 # The longest answer of `hpb serve`, and of a front, each with its LF: docs/PROTOCOL.md.
@@ -48,6 +50,8 @@ class Client:
         self.most = MOST_OF_FRONT if token else MOST_ANSWER
         self.socket: socket.socket | None = None
         self.stream: BinaryIO | None = None
+        # Whether the auction is a mock; unknown before the first greeting.
+        self.is_mock: bool | None = None
 
     def ask(self, line: bytes) -> bytes:
         """The answer to a line, both with their LF. If there is none, the GivesUp that is raised says why."""
@@ -68,7 +72,7 @@ class Client:
     def told(self, line: bytes) -> bytes:
         """The answer over the current connection, or over a new one if there is none."""
         if self.socket is None or self.stream is None:
-            self.socket = connected(self.place, self.token, self.context, PATIENCE)
+            self.socket = connected(self.place, self.token, self.context, PATIENCE, self.greeted)
             self.stream = self.socket.makefile("rb")
         self.socket.sendall(line)
         answer = self.stream.readline(self.most)
@@ -79,6 +83,14 @@ class Client:
         if not answer.endswith(b"\n") or answer[:-1] in ENDS:
             raise ConnectionError(answer.decode("latin-1").strip() or "it ends the connection")
         return answer
+
+    def greeted(self, says_mock: bool) -> None:
+        """Says so if the auction is a mock. No line that was meant for a mock is sent to another auction, nor the other way round."""
+        if self.is_mock not in (None, says_mock):
+            raise GivesUp(f"the auction {'was a mock, and this one is none' if self.is_mock else 'is a mock by now'}: no line is sent to it")
+        if says_mock and self.is_mock is None:
+            say(NOTICE)
+        self.is_mock = says_mock
 
     def hang_up(self) -> None:
         """Ends the connection, if there is one."""

@@ -107,6 +107,13 @@ def warn_of_activity(definition: Object, licences: int, warnings: list[str]) -> 
                 break
 
 
+def warnings_of(text: str) -> list[str]:
+    """The warnings about a definition that `hpb` has accepted."""
+    warnings: list[str] = []
+    warn(read(text, warnings), warnings)
+    return warnings
+
+
 @from_shell
 def main() -> int:
     """Reads the arguments, and returns the status."""

@@ -1,8 +1,10 @@
 """Lets bidders and an auctioneer in to an auction in a file: each by a token, with rights of their own, from anywhere.
 
     tools/front --config front.toml --make-tokens     writes a token for each name into the file of tokens
+    tools/front --config front.toml --make-seal-key   makes the key of seals, and shows its public key
     tools/front --config front.toml                   serves until SIGTERM, or until the auction is over
     tools/front --config front.toml tokens list       the ids of all tokens; `add NAME` and `revoke ID` change them
+    tools/front --config front.toml --make-mock mock.toml --first 2026-12-01T18:00    makes a mock, which rehearses the auction
 
 It starts `hpb serve` in a network of its own and keeps it running. It takes any number of connections, over TLS if there is a certificate.
 Each accepted command is written into a record before its answer leaves. If the configuration has a board, it also serves a page that
@@ -14,6 +16,8 @@ On standard output it writes:
 - `BOARD` and the address of the page, if there is one;
 - a line with the record's hash after each close;
 - `STOPPED n` at the end: n commands are accepted in all.
+
+Each of these lines of a mock ends with MOCK.
 
 SIGHUP makes it read tokens, certificate and limits again. The status is:
 
@@ -42,13 +46,17 @@ from typing import NoReturn
 from hpb.commands import program_name
 from hpb.front.config import Config
 from hpb.front.faults import Stops, Wrong
+from hpb.front.manager import Manager
+from hpb.front.mock import make_mock
 from hpb.front.network import Refused
 from hpb.front.running import Running
-from hpb.front.shell import Shell, change_tokens, end_at_once, end_by_fault, fault_says, read_words, take_sockets
+from hpb.front.shell import Shell, change_tokens, end_at_once, end_by_fault, fault_says, make_seal_key, read_words, take_sockets
+from hpb.front.stamping import begin_stamper
 from hpb.front.streams import streams_lead_astray
 from hpb.front.terms import Terms, read_terms
 from hpb.front.watch import free_signals, hold_signals
 from hpb.front.words import Teller
+from hpb.rounds import MOCK, NOTICE
 from hpb.rules.tree import Tree
 from hpb.streams import STANDARD_ERROR, hold_closed_streams
 
@@ -59,15 +67,19 @@ def serve(given: argparse.Namespace, teller: Teller) -> None:
     """Takes its sockets in the machine's network, leaves that network, and serves."""
     config, terms = read_terms(given.config)
     tree = config.tree()
+    if config.mock:
+        teller.say(f"{NOTICE} Each greeting and each page says {MOCK}")
     for bidder in config.silent_bidders(tree):
         teller.say(f"nobody may bid for {bidder}")
     for name in terms.tokens.silent(config.roles):
         teller.say(f"{name} has no token: nobody can connect as {name}")
     for path in config.read_by_all():
         teller.say(f"warning: every user may read {path}, and so the bids of the open round: `chmod 600` it")
+    manager = Manager(os.environ, teller.say)
+    stamper = begin_stamper(config.seals)
     sockets = take_sockets(config)
     hold_signals()
-    shell = Shell(config, given, teller)
+    shell = Shell(config, given, teller, manager, stamper)
     shell.start()
     loop = asyncio.new_event_loop()
     asyncio.set_event_loop(loop)
@@ -88,10 +100,15 @@ async def run(config: Config, terms: Terms, tree: Tree, sockets: list[socket.soc
 
 def do(given: argparse.Namespace, teller: Teller) -> None:
     """Does what the arguments ask for."""
-    if given.make_tokens or given.command:
+    if given.make_tokens or given.make_seal_key or given.make_mock or given.command:
         free_signals()
     if given.make_tokens:
         Config(given.config).token_file().make()
+    elif given.make_seal_key:
+        make_seal_key(given)
+    elif given.make_mock:
+        mock = make_mock(Config(given.config), given.make_mock, given.first)
+        teller.say(f"the mock has the file {mock.file} and the record {mock.record}; tools/front --config {given.make_mock} starts it")
     elif given.command == "tokens":
         change_tokens(given, teller)
     else:

@@ -35,6 +35,8 @@ from hpb.record import CutShort, Damaged, Entry, Place, record_entries
 from hpb.record.replay import Replay, replay
 from hpb.record.story import Story, read_story
 from hpb.refusals import HpbError, says
+from hpb.rounds import MOCK, NOTICE
+from hpb.rules.mock import is_mock
 
 _FAILED = 1
 _MOST_TOLD = 20
@@ -136,6 +138,8 @@ def _print_sum(story: Story, file: str | None) -> None:
     segments = "one segment" if story.segments == 1 else f"{story.segments} segments"
     print(f"{story.place.number} entries in one chain of hashes, in {segments}, {len(story.commands)} commands as in memory{compared}.")
     print(f"The last hash is {story.place.hash}.")
+    if is_mock(story.tree.definition):
+        print(NOTICE)
 
 
 def _table(head: Sequence[str], rows: Sequence[Sequence[str | int]]) -> Iterator[str]:
@@ -177,8 +181,9 @@ def _drawn(told: Replay) -> str:
     tree, standings = told.story.tree, told.standings
     prices = {name: [standing.nodes[name].price for standing in standings] for name in tree.all_licences}
     eligibility = {name: [standing.whos[name].eligibility for standing in standings] for name in tree.bidders}
-    return picture("Revenue, prices and eligibility by round", [
-        Panel("Revenue", "dollars", {"revenue": [standing.shown.revenue for standing in standings]}),
+    mock = f"{MOCK}: " if is_mock(tree.definition) else ""
+    return picture(f"{mock}Revenue, prices and eligibility by round", [
+        Panel(f"{mock}Revenue", "dollars", {"revenue": [standing.shown.revenue for standing in standings]}),
         Panel("Prices of licences", "dollars", prices),
         Panel("Eligibility", "units", eligibility),
     ])

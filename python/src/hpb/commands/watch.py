@@ -47,7 +47,7 @@ class Watch:
     def __init__(self, given: argparse.Namespace) -> None:
         auction = followed(given)
         self.tree = auction.tree
-        opens = at_port(given.port) if given.front is None else at_front(given)
+        opens = at_port(given.port) if given.front is None else at_front(given, lambda says_mock: self.follower.greeted(says_mock))
         # A front is asked for its news, too.
         names = [""] if given.front else []
         self.follower = Follower(auction.tree, auction.bidders, opens, self._take, auction.places, auction.pace, names=names)

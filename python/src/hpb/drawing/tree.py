@@ -5,6 +5,8 @@ from typing import ClassVar, Final
 from hpb.amounts import money
 from hpb.lines import NodeShown
 from hpb.markup import Markup, element
+from hpb.rounds import MOCK
+from hpb.rules.mock import is_mock
 from hpb.rules.told import Told
 from hpb.rules.tree import Tree
 
@@ -60,13 +62,15 @@ class Picture:
         """One part, counted from 1. It may have a style of its own."""
         first, last = self._spans[number - 1]
         height = (last - first) * _ROW - _GAP
-        title = "The tree of packages and licences" + (f", part {number} of {len(self._spans)}" if len(self._spans) > 1 else "")
+        mock = [_text(0, height, 0, f"{MOCK} auction")] if is_mock(self.tree.definition) else []
+        height += _LINE * len(mock) + _GAP * len(mock)
+        title = f"{f'{MOCK} auction: the' if mock else 'The'} tree of packages and licences" + (f", part {number} of {len(self._spans)}" if len(self._spans) > 1 else "")
         told = "; ".join(", ".join(self.texts[name]) for name in self.tree.nodes if self._is_told(name, first, last))
         ids = [f"{self.kind}-{number}-{what}" for what in ("title", "desc")]
         return element(
             "svg", element("title", title, id=ids[0]), element("desc", told, id=ids[1]),
             *([element("style", Markup(style))] if style else []),
-            *(self._box(name, first, last) for name in self.tree.nodes if self._overlap(name, first, last)),
+            *(self._box(name, first, last) for name in self.tree.nodes if self._overlap(name, first, last)), *mock,
             xmlns="http://www.w3.org/2000/svg", viewBox=f"-1 -1 {self.width + 2} {height + 2}", width=self.width + 2, height=height + 2,
             role="img", class_="tree-picture", aria_labelledby=" ".join(ids),
         )

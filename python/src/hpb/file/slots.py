@@ -3,7 +3,7 @@ import struct
 from dataclasses import dataclass
 from typing import Final
 
-from hpb.file.frames import RECORD, NoRecord, read_record
+from hpb.file.frames import NoRecord, read_record
 from hpb.file.layout import PAGE, SLOT_BODY, SLOTS, gate_is_open
 from hpb.limits import MOST_BID, MOST_COMMANDS
 from hpb.lines import Bid, Close, Command, Stage

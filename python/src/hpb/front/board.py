@@ -19,7 +19,7 @@ from hpb.front.shell import Shell
 from hpb.front.terms import Reload, Terms
 
 PROGRAM = "hpb.front.viewers"
-QUESTIONS = (b"SHOW", b"NODE", b"WHO", b"SCHEDULE", b"EVENT", b"READ", b"INFORMATION")
+QUESTIONS = (b"SHOW", b"NODE", b"WHO", b"SCHEDULE", b"EVENT", b"READ", b"INFORMATION", b"SEAL")
 # A process that has run for so many seconds has come up. If one ends before that, the next one waits, each time twice as long.
 STEADY, FIRST_PAUSE, MOST_PAUSE = 10, 1, 60
 PATIENCE = 30

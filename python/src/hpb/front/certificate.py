@@ -17,6 +17,8 @@ DAY_SECONDS = 86_400
 WARN_DAYS = 14
 LOOK_SECONDS = DAY_SECONDS
 BEGIN, END = "-----BEGIN CERTIFICATE-----", "-----END CERTIFICATE-----"
+# Client and server have so many turns in a handshake, at most.
+HANDSHAKE_TURNS = 4
 # The kinds of values in a certificate (ASN.1, DER) that are looked at.
 SEQUENCE, VERSION, UTC_TIME, GENERAL_TIME = 0x30, 0xA0, 0x17, 0x18
 # A year of two digits is one of 1950 to 2049.
@@ -48,6 +50,7 @@ class Certificate:
         context.minimum_version = ssl.TLSVersion.TLSv1_2
         with path_of(chain) as chain_path, path_of(key) as key_path:
             context.load_cert_chain(chain_path, key_path, password=no_password)
+        try_out(context)
         return cls(context, end_of(chain.decode("ascii", errors="replace")), chain, key)
 
     def says(self, now: float) -> str:
@@ -58,6 +61,24 @@ class Certificate:
         if (days := (self.ends - now) / DAY_SECONDS) <= WARN_DAYS:
             return f"warning: the certificate ends at {when}, in {days:.0f} days. Put a new one in its place, and send SIGHUP"
         return ""
+
+
+def try_out(context: ssl.SSLContext) -> None:
+    """Makes a handshake with a client of its own. If that can't be done, an OSError says why. OpenSSL passes over an algorithm for which it gets
+    no memory, and no client could connect then."""
+    client = ssl.SSLContext(ssl.PROTOCOL_TLS_CLIENT)
+    client.check_hostname, client.verify_mode = False, ssl.CERT_NONE
+    to_server, to_client = ssl.MemoryBIO(), ssl.MemoryBIO()
+    ends = client.wrap_bio(to_client, to_server), context.wrap_bio(to_server, to_client, server_side=True)
+    waits = True
+    for one in ends * HANDSHAKE_TURNS:
+        try:
+            one.do_handshake()
+            waits = False
+        except ssl.SSLWantReadError:
+            waits = True
+    if waits:
+        raise OSError("no client can make a handshake with it")
 
 
 @contextlib.contextmanager

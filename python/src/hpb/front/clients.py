@@ -52,7 +52,7 @@ class Connection(asyncio.Protocol):
         self.below: asyncio.BaseTransport | None = None
         # The bytes that aren't handed in yet; and the most bytes of the next line, 0 as long as none is allowed.
         self.rest, self.most = bytearray(), 0
-        self.has_ended = self.is_full = self.is_leaving = False
+        self.has_ended = self.is_full = self.is_leaving = self.is_waiting = False
         self.why = ""
 
     # Calls of the carrier.
@@ -112,15 +112,17 @@ class Connection(asyncio.Protocol):
             carrier.abort()  # type: ignore[union-attr]
 
     def pump(self) -> None:
-        """Hands in the next line, if the front allows one and it has come. Reads more only if the front waits for a line."""
-        if self.most and not self.is_full and (event := self.next(self.most)):
+        """Hands in the next line, if the front allows one and it has come. Nothing more is read as long as a line has to wait."""
+        if self.most and not self.is_full and (self.rest or self.has_ended) and (event := self.next(self.most)):
             self.most = 0
             self.post(event)
-        if self.transport and not self.transport.is_closing() and not self.has_ended:
-            if self.most and not self.is_full:
-                self.transport.resume_reading()
-            else:
+        is_to_wait = self.is_full or (not self.most and bool(self.rest))
+        if is_to_wait is not self.is_waiting and self.transport and not self.transport.is_closing() and not self.has_ended:
+            self.is_waiting = is_to_wait
+            if is_to_wait:
                 self.transport.pause_reading()
+            else:
+                self.transport.resume_reading()
 
     def next(self, most: int) -> Event | None:
         """The event for the next line, or for the end of lines."""

@@ -1,4 +1,5 @@
 """The configuration of a front, and its tokens (docs/FRONT.md)."""
+import importlib.util
 import ipaddress
 import os
 import pathlib
@@ -19,10 +20,12 @@ from hpb.front.log import JOURNAL, STANDARD_ERROR, Journal, Log, Rotated, Sink, 
 from hpb.front.network import Address
 from hpb.front.plan import read_closing, read_plan
 from hpb.front.rights import AUCTIONEER, BIDDER, OBSERVER, Role
+from hpb.front.seals import SealsPlace
 from hpb.front.tokens import TokenFile
 from hpb.limits import NAME
 from hpb.own_files import read_regular
 from hpb.refusals import Refused
+from hpb.rules.mock import MARK, is_mock
 from hpb.rules.tree import Tree, tree_of
 
 # A table of a TOML file.
@@ -39,14 +42,24 @@ LOG_LIMITS = {
 }
 TEXTS = ["file", "record", "tokens", "listen"]
 OPTIONAL_TEXTS = ["program", "certificate", "key"]
-FIELDS = {*TEXTS, *OPTIONAL_TEXTS, "port", "plain", "shared_network", "names", "limits", "board", "log", "rounds", "closing", "information"}
+FIELDS = {*TEXTS, *OPTIONAL_TEXTS, "port", "plain", "shared_network", "mock", "names", "limits", "board", "log", "rounds", "closing", "information", "seals", "metrics"}
 # Fields that can't change while a front runs; all others are read again at SIGHUP.
-FIXED = ["file", "record", "tokens", "program", "port", "shared_network", "host", "listen_port", "roles", "board", "log", "plan", "closing", "information"]
+FIXED = ["file", "record", "tokens", "program", "port", "shared_network", "mock", "host", "listen_port", "roles", "board", "log", "plan", "closing", "information", "seals", "metrics"]
+METRICS_LIBRARY = "prometheus_client"
 # The kinds of log lines that strangers can cause.
 STRANGERS = ["connection", "token", "ended", "page"]
 # The fields of files that have bids of the open round.
 WITH_BIDS = {"file", "record", "log"}
 BOARD_FIELDS = {"listen", "names"}
+METRICS_FIELDS = {"listen", "plain"}
+# A path that begins so is one of the folder that this variable names, as LoadCredential= of systemd makes it.
+CREDENTIALS_VARIABLE = "CREDENTIALS_DIRECTORY"
+CREDENTIALS = f"${CREDENTIALS_VARIABLE}/"
+# A configuration and a file of which one alone is a mock's.
+OF_MOCK = (f"is the file of a mock: its definition has the bidder {MARK}. Name the auction's own file and record. If this is to be the "
+           "mock, set mock = true")
+OF_REAL = (f"isn't the file of a mock: its definition lacks the bidder {MARK}. Nothing was changed. For the auction itself take mock out; "
+           "else make a mock by --make-mock, and name its file and record")
 HOST_NAME = re.compile(r"[A-Za-z0-9-]{1,63}(\.[A-Za-z0-9-]{1,63})*")
 
 
@@ -110,6 +123,27 @@ class BoardPlace:
         return cls(host, port, names)
 
 
+@dataclass(frozen=True)
+class MetricsPlace:
+    """The address at which the front shows its metrics, in clear."""
+
+    host: str
+    port: int
+
+    @classmethod
+    def read(cls, given: Table) -> "MetricsPlace":
+        for field in given:
+            if field not in METRICS_FIELDS:
+                raise Wrong(f"metrics.{field}: there is no such field")
+        if importlib.util.find_spec(METRICS_LIBRARY) is None:
+            raise Wrong(f"metrics: Python's {METRICS_LIBRARY} isn't installed; Debian has it in python3-prometheus-client")
+        host, port = read_address(text_of(given, "listen", "metrics."), "metrics.listen")
+        if not truth(given, "plain", "metrics.") and not is_loopback(host):
+            raise Wrong(f"metrics.listen: {host} is no address of this machine alone, and metrics are sent in clear, to anyone who asks; if "
+                        "that is meant, set plain = true there")
+        return cls(host, port)
+
+
 class Config:
     """A configuration. Paths in it begin at its folder."""
 
@@ -123,21 +157,27 @@ class Config:
         self.folder = pathlib.Path(path).resolve().parent
         texts = {field: text_of(given, field) for field in TEXTS}
         more = {field: text_of(given, field) for field in OPTIONAL_TEXTS if field in given}
-        self.file, self.record, self.tokens = (str(self.folder / texts[field]) for field in TEXTS[:3])
+        self.file, self.record = (str(self.folder / texts[field]) for field in TEXTS[:2])
+        self.tokens = handed(self.folder, texts["tokens"], "tokens")
         self.host, self.listen_port = read_address(texts["listen"])
         self.program = program_of(self.folder, more.get("program", "hpb"))
         self.port = whole(given["port"], LEAST_PORT, MOST_PORT, "port") if "port" in given else None
         self.limits = read_limits(table_of(given, "limits", is_needed=False))
         self.board = BoardPlace.read(table_of(given, "board")) if "board" in given else None
+        self.metrics = MetricsPlace.read(table_of(given, "metrics")) if "metrics" in given else None
         self.plan = read_plan(table_of(given, "rounds", is_needed=False)) if "rounds" in given else None
         self.closing, self.roles = read_closing(table_of(given, "closing", is_needed=False), read_roles(table_of(given, "names")), self.plan)
         self.information: Information | None = None
         if "information" in given:
             self.information, self.roles = read_information(table_of(given, "information", is_needed=False), self.roles)
-        self.certificate, self.key = (str(self.folder / more[field]) if field in more else None for field in OPTIONAL_TEXTS[1:])
+        self.seals: SealsPlace | None = None
+        if "seals" in given:
+            self.seals = SealsPlace.read(table_of(given, "seals", is_needed=False), self.folder)
+            self.roles = {name: role._replace(has_seals=True) for name, role in self.roles.items()}
+        self.certificate, self.key = (handed(self.folder, more[field], field) if field in more else None for field in OPTIONAL_TEXTS[1:])
         self.log = LogPlace.read(table_of(given, "log", is_needed=False), self.folder, f"{texts['record']}.log")
         self.look_at_transport(truth(given, "plain"))
-        self.shared_network = truth(given, "shared_network")
+        self.shared_network, self.mock = truth(given, "shared_network"), truth(given, "mock")
         if self.port and not self.shared_network:
             raise Wrong("port: each account of this machine reaches a server that runs already, and can send it commands; if that is meant, "
                         "set shared_network = true")
@@ -161,6 +201,10 @@ class Config:
             files.append(Kept("certificate", self.certificate))
         if self.key and self.key != self.certificate:
             files.append(Kept("key", self.key))
+        if self.seals and self.seals.key:
+            files.append(Kept("key of seals", self.seals.key))
+        if self.seals and self.seals.stamps:
+            files.append(Kept("certificates of stamps", self.seals.stamps.authority))
         if "/" in self.program:
             files.append(Kept("program", self.program))
         if self.log.path:
@@ -184,20 +228,23 @@ class Config:
         return self.sessions() + (self.board is not None)
 
     def tree(self) -> Tree:
-        """The definition, from the head of the auction's file. Raises a Wrong if a name may bid for a bidder that isn't in it."""
+        """The definition, from the head of the auction's file. Raises a Wrong if it is that of a mock and the configuration isn't, or the
+        other way round. So it does if a name may bid for a bidder that isn't in it."""
         try:
             tree = tree_of(read_head(read_image(self.file, is_quiet=False)).definition)
         except Refused as fault:
             raise Wrong(f"file: {self.file}: {fault.brief}") from None
+        if is_mock(tree.definition) is not self.mock:
+            raise Wrong(f"file: {self.file} {OF_REAL if self.mock else OF_MOCK}")
         for name, role in self.roles.items():
             for bidder in role.bidders:
-                if bidder not in tree.bidders:
+                if bidder not in tree.bidders or bidder == MARK:
                     raise Wrong(f"names.{name}: {bidder!r} is no bidder of the definition")
         return tree
 
     def silent_bidders(self, tree: Tree) -> list[str]:
         """The bidders of the definition for whom no name may bid."""
-        spoken_for = {bidder for role in self.roles.values() for bidder in role.bidders}
+        spoken_for = {MARK, *(bidder for role in self.roles.values() for bidder in role.bidders)}
         return [bidder for bidder in tree.bidders if bidder not in spoken_for]
 
     def read_certificate(self) -> Certificate | None:
@@ -214,9 +261,9 @@ class Config:
         return TokenFile(self.tokens, self.roles)
 
     def addresses(self) -> list[Address]:
-        """The addresses at which the front listens, and its board if it has one."""
-        board = [Address("board.listen", self.board.host, self.board.port)] if self.board else []
-        return [Address("listen", self.host, self.listen_port), *board]
+        """The addresses at which the front listens, and its board and its metrics if it has them, in this order."""
+        others = [("board.listen", self.board), ("metrics.listen", self.metrics)]
+        return [Address("listen", self.host, self.listen_port), *(Address(field, place.host, place.port) for field, place in others if place)]
 
 
 def read_toml(path: str | os.PathLike[str]) -> Table:
@@ -244,10 +291,10 @@ def table_of(given: Table, field: str, is_needed: bool = True) -> Table:
     return value
 
 
-def truth(given: Table, field: str) -> bool:
+def truth(given: Table, field: str, where: str = "") -> bool:
     value = given.get(field, False)
     if not isinstance(value, bool):
-        raise Wrong(f"{field} has to be true or false")
+        raise Wrong(f"{where}{field} has to be true or false")
     return value
 
 
@@ -279,6 +326,16 @@ def read_address(text: str, where: str = "listen") -> tuple[str, int]:
 
 def is_loopback(host: str) -> bool:
     return ipaddress.ip_address(host).is_loopback
+
+
+def handed(folder: pathlib.Path, word: str, field: str) -> str:
+    """A path of the configuration's folder, or of the folder in which a service manager hands in secrets."""
+    if not word.startswith(CREDENTIALS):
+        return str(folder / word)
+    where = os.environ.get(CREDENTIALS_VARIABLE)
+    if not where:
+        raise Wrong(f"{field}: {word} is handed in by a service manager alone: here {CREDENTIALS_VARIABLE} isn't set")
+    return os.path.join(where, word.removeprefix(CREDENTIALS))
 
 
 def program_of(folder: pathlib.Path, word: str) -> str:

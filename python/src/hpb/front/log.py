@@ -10,12 +10,12 @@ import re
 import socket
 import time
 from _thread import allocate_lock
-from collections.abc import Callable
+from collections.abc import Callable, Mapping
 from dataclasses import dataclass, field
 from typing import Protocol
 
 from hpb.own_files import give_name, is_at, open_own
-from hpb.threads import Lines, keeper
+from hpb.threads import Keeper, Lines
 
 Field = str | int | float | bool | None | list[str]
 
@@ -175,8 +175,10 @@ class Log:
         self.buckets = {kind: Bucket(rate, BURST_SECONDS * rate, now) for kind, rate in self.per_second.items()}
         self.lost: dict[str, int] = {}
         self.has_begun = False
+        # Gets each line, also if it is left out.
+        self.seen: Callable[[str, Mapping[str, Field]], None] | None = None
         self.counted = self.warned = -WARN_SECONDS
-        self.writer = keeper(self.write_or_fail, PAUSE)
+        self.writer = Keeper(self.write_or_fail, PAUSE)
 
     def start(self) -> "Log":
         """Starts the thread. A RuntimeError says that the system has none."""
@@ -186,6 +188,8 @@ class Log:
 
     def write(self, kind: str, **fields: Field) -> None:
         """Adds a line, and never waits. If there is no room for it, it is only counted."""
+        if self.seen:
+            self.seen(kind, fields)
         self.lock.acquire()
         try:
             bucket = self.buckets.get(kind)

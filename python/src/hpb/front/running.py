@@ -2,8 +2,8 @@
 import asyncio
 import resource
 import socket
-from argparse import Namespace
 from collections.abc import Callable, Coroutine
+from functools import partial
 from typing import Any
 
 from hpb.front import clock
@@ -12,11 +12,17 @@ from hpb.front.clients import MOST_CONNECTIONS, Clients
 from hpb.front.config import Config
 from hpb.front.core import Setting, effects, events, new_front
 from hpb.front.faults import Stops
+from hpb.front.health import MOST_CONNECTIONS as MOST_WATCHERS
 from hpb.front.machine import Machine
+from hpb.front.manager import READY, RELOADING, STOPPING
 from hpb.front.recorder import Recorder, open_record, opened
+from hpb.front.seals import Finder, Seals
 from hpb.front.server import Server
 from hpb.front.shell import Shell, end_at_once, fault_says
+from hpb.front.stamping import Stamping
 from hpb.front.terms import Reload, Terms
+from hpb.front.watched import Watched
+from hpb.record import RecordFile
 from hpb.rules.tree import Tree
 from hpb.rules.writing import fields_of
 from hpb.threads import in_thread
@@ -41,14 +47,16 @@ class Running:
         setting = Setting(
             tree, config.roles, config.sessions(), has_board=config.board is not None, starts_server=config.port is None,
             may_be_foreign=shell.given.foreign, record=config.record_name(), address=f"{host} {port}", plan=config.plan,
-            closing=config.closing, information=config.information,
+            closing=config.closing, information=config.information, has_seals=config.seals is not None,
         )
+        self.signer = config.seals.signer() if config.seals else None
         self.machine = Machine(new_front(setting, terms.limits, terms.tokens, loop.time()), loop.time)
-        post = self.machine.post
+        post, gather = self.machine.post, self.machine.gather
         self.reloading = Reload(config, terms, self.take_terms, shell.teller.say, shell.log)
-        self.server = Server(config, post, self.begin)
-        self.clients = Clients(sockets[0], terms, post, shell, self.fail_from_thread)
+        self.server = Server(config, gather, self.begin)
+        self.clients = Clients(sockets[0], terms, gather, shell, self.fail_from_thread)
         self.board = Board(self.reloading, sockets[1], post, self.begin, shell) if config.board else None
+        self.watched = Watched(sockets[-1], self.machine, self.reloading, shell.log, config.record) if config.metrics else None
         self.admitting: asyncio.Task[None] | None = None
         self.connect_shells()
 
@@ -62,7 +70,7 @@ class Running:
             effects.EndServer: server.end, effects.Tell: server.tell, effects.Wake: self.wake,
             effects.Publish: lambda effect: shell.teller.tell(effect.text), effects.Say: lambda effect: shell.teller.say(effect.text),
             effects.Note: lambda effect: shell.log.write(effect.kind, **effect.fields),
-            effects.MustEnd: lambda _: shell.watch.arm(), effects.Finish: lambda effect: self.finish(effect.why),
+            effects.MustEnd: self.must_end, effects.Finish: lambda effect: self.finish(effect.why),
         }
         if self.board:
             self.machine.shells |= {effects.StartBoard: self.board.begin_up, effects.AnswerBoard: self.board.take_answer}
@@ -71,6 +79,8 @@ class Running:
         loop = asyncio.get_running_loop()
         loop.set_exception_handler(self.take_fault)
         self.begin(self.keep_ticking())
+        for work in self.watched.works() if self.watched else []:
+            self.begin(work)
         self.shell.teller.lost = self.lose_line
         self.shell.watch.attach(loop, lambda: self.machine.post(events.Stop()), lambda: self.reload())
         self.allow_descriptors()
@@ -88,13 +98,27 @@ class Running:
         record, torn = await in_thread(lambda: open_record(self.config.record, definition, given.set_aside))
         if torn:
             self.shell.teller.say(f"the record's end was torn: {torn['bytes']} bytes are set aside as {torn['aside']}")
-        recorder = Recorder(record, self.machine.post)
+        seals = await self.open_seals(record)
+        recorder = Recorder(record, self.machine.post, seals)
         self.machine.shells |= {
             effects.Write: recorder.write,
             effects.PutBeside: recorder.put, effects.FreeBeside: recorder.put, effects.EmptyBeside: recorder.put,
         }
+        self.machine.flushes.append(recorder.flush)
         self.begin(recorder.keep_looking())
-        self.machine.post(await in_thread(lambda: opened(record)))
+        self.machine.post(await in_thread(lambda: seals.told(opened(record)) if seals else opened(record)))
+
+    async def open_seals(self, record: RecordFile) -> Seals | None:
+        """The seals of the record, if there are any. All of it is read for that."""
+        if self.signer is None:
+            return None
+        seals = await in_thread(partial(Seals, record, self.signer))
+        for warning in seals.warnings:
+            self.shell.teller.say(warning)
+        self.machine.shells |= {effects.LookUp: Finder(seals, self.machine.post, self.begin).look_up}
+        if self.shell.stamper:
+            self.begin(Stamping(self.shell.stamper, seals, self.machine.post, self.shell.log.write).keep_stamping())
+        return seals
 
     async def leave(self) -> None:
         """Ends everything: no task goes on, and the server and the page are gone, if the system lets them end."""
@@ -163,6 +187,8 @@ class Running:
 
     def tick(self) -> None:
         """Time has passed: the front gets a reading of the clocks, too."""
+        self.clients.handshakes.thread.look("handshakes")
+        self.shell.manager.tell_alive()
         self.machine.post(clock.read())
         self.machine.post(events.Tick())
 
@@ -172,14 +198,27 @@ class Running:
         self.clients.start()
         self.admitting = self.begin(self.clients.admit())
         self.begin(self.reloading.keep_looking_at_certificate())
+        self.shell.manager.tell(READY)
 
     def shut(self, _: effects.Shut) -> None:
         if self.admitting:
             self.admitting.cancel()
         self.clients.listener.close()
 
+    def must_end(self, _: effects.MustEnd) -> None:
+        self.shell.watch.arm()
+        self.shell.manager.tell(STOPPING)
+
     def reload(self) -> None:
-        self.begin(self.reloading.change())
+        self.begin(self.reload_and_tell())
+
+    async def reload_and_tell(self) -> None:
+        """Until the front is ready for the first time, a service manager isn't told of a reload."""
+        if self.admitting:
+            self.shell.manager.tell(RELOADING)
+        await self.reloading.change()
+        if self.admitting:
+            self.shell.manager.tell(READY)
 
     def take_terms(self, terms: Terms) -> None:
         """Puts terms in force that were read again."""
@@ -192,7 +231,7 @@ class Running:
     def allow_descriptors(self) -> None:
         """Raises the limit of descriptors to what the front's own limits need, if the system lets it."""
         limits, names = self.reloading.terms.limits, len(self.config.roles)
-        own = 2 * self.config.places() + MORE_DESCRIPTORS
+        own = 2 * self.config.places() + MORE_DESCRIPTORS + (MOST_WATCHERS if self.watched else 0)
         wanted = names * limits.connections + limits.unknown_connections + own
         soft, hard = resource.getrlimit(resource.RLIMIT_NOFILE)
         most = hard if hard != resource.RLIM_INFINITY else max(soft, wanted)

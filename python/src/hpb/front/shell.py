@@ -6,8 +6,10 @@ import socket
 from typing import IO, Any, NoReturn
 
 from hpb.front.config import Config
-from hpb.front.faults import Stops
+from hpb.front.faults import Stops, Wrong
+from hpb.front.manager import Manager
 from hpb.front.network import Refused, enter_own, handed_in, take
+from hpb.front.stamping import Stamper
 from hpb.front.watch import Watch
 from hpb.front.words import Teller, cry
 from hpb.streams import STANDARD_OUTPUT, write_all
@@ -37,16 +39,18 @@ def end_at_once() -> NoReturn:
 def end_by_fault(_: asyncio.AbstractEventLoop, context: dict[str, Any]) -> None:
     """Takes a fault of an event loop in which no front runs yet. asyncio would only log it, and the front would never begin."""
     try:
-        cry(f"front: {fault_says(context['exception'])}\n".encode())
+        fault = context.get("exception")
+        cry(f"front: {fault_says(fault) if fault else 'a fault of the front: ' + context['message']}\n".encode())
     finally:
         os._exit(1)
 
 
 class Shell:
-    """A front's process: its arguments, its output, its log, and signals."""
+    """A front's process: its arguments, its output, its log, signals, its service manager, and the process that gets stamps, if any."""
 
-    def __init__(self, config: Config, given: argparse.Namespace, teller: Teller) -> None:
-        self.given, self.teller, self.log, self.watch = given, teller, config.log.open(teller.say), Watch()
+    def __init__(self, config: Config, given: argparse.Namespace, teller: Teller, manager: Manager, stamper: Stamper | None = None) -> None:
+        self.given, self.teller, self.manager, self.log, self.watch = given, teller, manager, config.log.open(teller.say), Watch()
+        self.stamper = stamper
 
     def start(self) -> None:
         """Starts its threads."""
@@ -70,6 +74,14 @@ def take_sockets(config: Config) -> list[socket.socket]:
         raise Stops(f"{fault}. Without one each account of this machine reaches the server; shared_network = true lets the front do "
                     "without") from None
     return sockets
+
+
+def make_seal_key(given: argparse.Namespace) -> None:
+    """`--make-seal-key`: makes the key of seals, and shows its public key."""
+    seals = Config(given.config).seals
+    if seals is None:
+        raise Wrong("the configuration has no table [seals]")
+    show(f"{seals.make().public}\n")
 
 
 def change_tokens(given: argparse.Namespace, teller: Teller) -> None:
@@ -107,6 +119,9 @@ def read_words(text: str, name: str) -> argparse.Namespace:
     words = Words(prog=name, description=text, formatter_class=argparse.RawDescriptionHelpFormatter)
     words.add_argument("--config", required=True, help="the configuration, a file of TOML")
     words.add_argument("--make-tokens", action="store_true", help="make the file of tokens, with one for each name, and end")
+    words.add_argument("--make-mock", metavar="FILE", help="make a mock of the auction, with this new configuration, and end")
+    words.add_argument("--first", metavar="TIME", help="with --make-mock: when the mock's first round opens, as 2026-12-01T18:00")
+    words.add_argument("--make-seal-key", action="store_true", help="make the key of seals, show its public key, and end")
     words.add_argument("--foreign", action="store_true", help="go on if the file got commands by another way; the audit ends there")
     words.add_argument("--set-aside", action="store_true", help="go on if the record is damaged and has no backup; all from there on is set aside, and the audit ends there")
     commands = words.add_subparsers(dest="command", metavar="tokens", help="change the file of tokens; SIGHUP makes a front read it")
@@ -114,4 +129,7 @@ def read_words(text: str, name: str) -> argparse.Namespace:
     tokens.add_parser("add", help="a new token, which is shown this once").add_argument("name", help="whose it is")
     tokens.add_parser("revoke", help="a token is nobody's any more").add_argument("id", help="as `tokens list` shows it")
     tokens.add_parser("list", help="the name and the id of each token")
-    return words.parse_args()
+    given = words.parse_args()
+    if given.first and not given.make_mock:
+        words.error("--first goes with --make-mock")
+    return given

@@ -12,6 +12,8 @@ from hpb.front.log import Log
 from hpb.front.tokens import Tokens
 from hpb.threads import in_thread
 
+# Within so many seconds the files are read again, or refused: their disk may hang.
+READ_SECONDS = 30.0
 # Faults whose text is said. That of others may hold secrets, such as a token.
 SAID = (Wrong, OSError, RuntimeError, MemoryError)
 
@@ -50,7 +52,11 @@ class Reload:
         the old terms stay in force."""
         async with self.in_turn:
             try:
-                config, terms = await in_thread(lambda: read_terms(self.config.path, self.config))
+                reading = in_thread(lambda: read_terms(self.config.path, self.config))
+                config, terms = await asyncio.wait_for(reading, READ_SECONDS)
+            except asyncio.TimeoutError:
+                self.refuse(f"they aren't read within {READ_SECONDS:g} seconds, as when a disk hangs")
+                return
             except Exception as fault:  # Whatever is wrong with them, the front goes on as before.
                 self.refuse(str(fault) if isinstance(fault, SAID) else f"a fault of the front: {type(fault).__name__}")
                 return

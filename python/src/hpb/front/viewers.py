@@ -13,6 +13,7 @@ import os
 import signal
 import socket
 import sys
+from typing import NoReturn
 
 from hpb.front.faults import Wrong
 from hpb.front.given import Given, read, read_all
@@ -63,7 +64,13 @@ def followed(follower: Follower) -> None:
         end(f"following ended: {fault!r}")
 
 
-def end(text: object) -> None:
+def look_at(following: Thread, follower: Follower) -> None:
+    """The same if there was no memory for the first call of following, or for the words about its end."""
+    if following.has_ended and follower.view.contact.state != State.OVER:
+        end("following ended, and there was no memory to say why")
+
+
+def end(text: object) -> NoReturn:
     """Writes the reason, unless nobody reads standard error, and ends the process."""
     try:
         cry(f"board: {text}\n".encode(errors="backslashreplace"))
@@ -85,7 +92,8 @@ def serve(given: Given, listener: socket.socket) -> None:
 
     context = given.certificate.context if given.certificate else None
     with Server(("", 0), given.host_names, guests, context, listener, note) as server:
-        Thread(lambda: followed(follower)).start()
+        following = Thread(lambda: followed(follower)).start()
+        server.look = lambda: look_at(following, follower)
         print(f"BOARD {server.url()}", flush=True)
         server.serve_forever()
 

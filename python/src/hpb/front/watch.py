@@ -13,7 +13,7 @@ from _thread import allocate_lock
 from collections.abc import Callable
 
 from hpb.front.words import cry
-from hpb.threads import Signal, Thread
+from hpb.threads import Keeper, Signal
 
 STOPS = (signal.SIGTERM, signal.SIGINT)
 SIGNALS = {*STOPS, signal.SIGHUP}
@@ -49,7 +49,9 @@ class Watch:
         self.loop: asyncio.AbstractEventLoop | None = None
         self.stop: Callable[[], None] = lambda: None
         self.reload: Callable[[], None] = lambda: None
-        self.threads = [Thread(target) for target in (self.take_signals, self.keep_limit)]
+        # The signal that was taken last, until all is done about it; and whether the limit is over.
+        self.number, self.is_over = 0, False
+        self.threads = [Keeper(self.take_next, PAUSE), Keeper(self.keep_limit, PAUSE)]
 
     def start(self) -> None:
         """A RuntimeError says that the system has no threads."""
@@ -68,20 +70,12 @@ class Watch:
         finally:
             self.lock.release()
 
-    def take_signals(self) -> None:
-        """Takes one signal after the other. Whatever fails, the thread goes on, and has the signal that it took: without it, only SIGKILL
-        could end the front."""
-        number, has_failed = 0, False
-        while True:
-            try:
-                if has_failed:
-                    time.sleep(PAUSE)
-                # `signal.sigwait` asks for memory when the signal is taken already.
-                number = number or sigwait(SIGNALS)
-                self.take(number)
-                number, has_failed = 0, False
-            except Exception:
-                has_failed = True
+    def take_next(self) -> None:
+        """Takes a signal. If anything fails, the next turn has the signal that was taken: without it, only SIGKILL could end the front."""
+        # `signal.sigwait` asks for memory when the signal is taken already.
+        self.number = self.number or sigwait(SIGNALS)
+        self.take(self.number)
+        self.number = 0
 
     def take(self, number: int) -> None:
         if number in STOPS:
@@ -104,16 +98,11 @@ class Watch:
 
     def keep_limit(self) -> None:
         """Ends the process some time after it is armed. Whatever fails is tried again."""
-        is_over = False
-        while True:
-            try:
-                if not is_over:
-                    self.armed.wait()
-                    time.sleep(END_SECONDS)
-                is_over = True
-                self.end()
-            except Exception:
-                pass
+        if not self.is_over:
+            self.armed.wait()
+            time.sleep(END_SECONDS)
+        self.is_over = True
+        self.end()
 
     def end(self) -> None:
         cry(b"front: it doesn't come to an end, as where a disk or a program hangs; it ends all the same, and what was answered OK is kept\n")

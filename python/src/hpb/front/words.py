@@ -5,7 +5,7 @@ import time
 from collections.abc import Callable
 
 from hpb.streams import STANDARD_ERROR, STANDARD_OUTPUT, write_all
-from hpb.threads import Lines, keeper
+from hpb.threads import Keeper, Lines
 
 # So many lines wait for a reader, who may have stopped the terminal by Ctrl-S. Lines beyond that are only counted.
 MOST_UNREAD = 1_000
@@ -18,18 +18,18 @@ LOOK_SECONDS, PAUSE, TRIES = 1.0, 0.05, 20
 
 class Writer:
     """Writes lines to a stream in a thread of its own, so that bidders don't wait for whoever reads the stream. `lose` gets the first line
-    that can't be written, and the reason."""
+    that can't be written, and the reason. A line is written `writes` times, until that doesn't fail."""
 
-    def __init__(self, stream: int, lose: Callable[[str, str], None] = lambda line, why: None) -> None:
-        self.stream, self.left_out, self.lose, self.has_failed = stream, 0, lose, False
-        self.lines, self.tries, self.thread = Lines(MOST_UNREAD), 0, keeper(self.write_next, PAUSE)
+    def __init__(self, stream: int, lose: Callable[[str, str], None] = lambda line, why: None, writes: int = 1) -> None:
+        self.stream, self.left_out, self.lose, self.has_failed, self.writes = stream, 0, lose, False, writes
+        self.lines, self.tries, self.thread = Lines(MOST_UNREAD), 0, Keeper(self.write_next, PAUSE)
 
     def add(self, text: str) -> None:
         if not self.lines.add(f"{text}\n".encode(errors="backslashreplace")):
             self.left_out += 1
 
     def write_next(self) -> None:
-        """Writes the first line. A MemoryError says that it stays the first one, and is to be tried again."""
+        """Writes the first line. A MemoryError or an OSError says that it stays the first one, and is to be tried again."""
         data = self.lines.first(LOOK_SECONDS)
         if not data:
             return
@@ -38,6 +38,8 @@ class Writer:
             write_all(self.stream, b"front: %d lines weren't read in time, and are left out\n" % self.left_out + data if self.left_out else data)
             self.left_out = 0
         except OSError as fault:
+            if self.tries < self.writes:
+                raise
             self.fail(data, fault.strerror or "it failed")
         except MemoryError:
             if self.tries < TRIES:
@@ -56,7 +58,10 @@ class Writer:
         are written here."""
         end = time.monotonic() + seconds
         while self.thread.begun.locked() and not self.lines.is_empty():
-            self.write_next()
+            try:
+                self.write_next()
+            except (MemoryError, OSError):
+                pass
         while not self.lines.is_empty() and time.monotonic() < end:
             time.sleep(POLL_SECONDS)
         return len(self.lines)
@@ -66,7 +71,8 @@ class Teller:
     """The front's output: messages on standard error, and results on standard output."""
 
     def __init__(self) -> None:
-        self.errors, self.output = Writer(STANDARD_ERROR), Writer(STANDARD_OUTPUT, self.lose)
+        # Nobody learns that standard error lost a line, so that isn't given up at once.
+        self.errors, self.output = Writer(STANDARD_ERROR, writes=2), Writer(STANDARD_OUTPUT, self.lose)
         # Gets the first line that standard output loses, in the thread that writes.
         self.lost: Callable[[str], None] = lambda line: None
 

@@ -13,7 +13,8 @@ from hpb.lines import Shown, parse_answer
 from hpb.pages import reaching
 from hpb.pages.view import Contact, State, Told, View, period, taken
 from hpb.refusals import HpbError
-from hpb.rounds import InformationShown, News, ReadUpTo, Schedule, parse_front_answer
+from hpb.rounds import InformationShown, News, ReadUpTo, Schedule, SealShown, parse_front_answer
+from hpb.rules.mock import is_mock
 from hpb.rules.told import NotTold, look_whose, read_standing, read_told
 from hpb.rules.told import Told as Standing
 from hpb.rules.tree import Tree
@@ -23,10 +24,12 @@ ADDRESS: Final = "127.0.0.1"
 # In seconds: the pause between two questions, and how long to wait for an answer before the server is reported silent.
 PACE: Final = 1.0
 PATIENCE: Final = 5.0
-_QUESTIONS = ("SHOW", "NODE", "WHO", "SCHEDULE", "EVENT", "READ", "INFORMATION")
+_QUESTIONS = ("SHOW", "NODE", "WHO", "SCHEDULE", "EVENT", "READ", "INFORMATION", "SEAL")
 # So many news of a name are kept.
 _MOST_NEWS = 200
 _MOST_LINE = 65_536
+# The answer to SEAL before the first close.
+_NO_SEAL_YET = "ERR front unknown"
 # How many times to ask again for a state, if a close came between the answers.
 _ATTEMPTS = 4
 _LONGEST_PAUSE = 10.0
@@ -123,8 +126,14 @@ class Follower:
         self._pace, self._patience, self._stopped = pace, patience, Signal()
         self._node_lines: list[str] = []
         self._is_settled = True
-        self._names, self._has_rules = list(names), bool(names)
-        self.view = View(None, Contact(State.WAITING, time.time(), places))
+        self._names, self._has_rules, self._has_seals = list(names), bool(names), bool(names)
+        self.view = View(None, Contact(State.WAITING, time.time(), places), is_mock=is_mock(tree.definition))
+
+    def greeted(self, says_mock: bool) -> None:
+        """A front's greeting says whether its auction is a mock. `NotFollowed` is raised if the definition is that of a mock alone."""
+        if is_mock(self._tree.definition) and not says_mock:
+            raise NotFollowed("the definition is that of a mock, and the auction is none")
+        self.view = self.view._replace(is_mock=says_mock)
 
     def stop(self) -> None:
         """Makes it end soon. May be called from any thread."""
@@ -157,8 +166,8 @@ class Follower:
             return None
         contact = self.view.contact
         self.view = self.view._replace(contact=contact._replace(places=contact.places - 1))
-        # Perhaps another auction is served now, or by other rules: so nodes and rules are asked about again.
-        self._node_lines, self._has_rules = [], bool(self._names)
+        # Perhaps another auction is served now, or by other rules: so nodes, rules and seals are asked about again.
+        self._node_lines, self._has_rules, self._has_seals = [], bool(self._names), bool(self._names)
         return session
 
     def _keep_asking(self, session: Session) -> None:
@@ -198,16 +207,22 @@ class Follower:
             self._names = []
             return False
         told = {name: self._told(session, name) for name in self._names}
-        information = self._ask_rules(session)
-        is_new = _without_time(schedule) != _without_time(self.view.schedule) or told != self.view.told or information != self.view.information
-        self.view = self.view._replace(schedule=schedule, told=told, information=information)
-        return is_new
+        information, seal = self._ask_rules(session), self._ask_seal(session)
+        old, is_new_time = self.view, _without_time(schedule) != _without_time(self.view.schedule)
+        self.view = old._replace(schedule=schedule, told=told, information=information, seal=seal)
+        return is_new_time or (told, information, seal) != (old.told, old.information, old.seal)
 
     def _ask_rules(self, session: Asks) -> str:
         """A front's answer about the rules on information. If it has none, it isn't asked again."""
         answer = session.ask(["INFORMATION"])[0] if self._has_rules else ""
         self._has_rules = answer.startswith("INFORMATION ")
         return answer if self._has_rules else ""
+
+    def _ask_seal(self, session: Asks) -> str:
+        """A front's last seal, empty if there is none yet. If it has no seals at all, it isn't asked again."""
+        answer = session.ask(["SEAL"])[0] if self._has_seals else ""
+        self._has_seals = answer.startswith("SEAL ") or answer == _NO_SEAL_YET
+        return answer if isinstance(parse_front_answer(answer), SealShown) else ""
 
     def _told(self, session: Asks, name: str) -> Told:
         """The news of a name, with those that came since."""

@@ -4,7 +4,7 @@ from collections.abc import Mapping, Sequence
 from typing import Final, NamedTuple
 
 from hpb.amounts import money
-from hpb.pages.rounds import clock_says, news_says
+from hpb.pages.rounds import clock_says, news_says, seal_says
 from hpb.pages.telling import NOBODY, bidder_texts, close_says, closes_say, contact_says, node_texts, outlook, revenue_says, round_says, stage_says
 from hpb.pages.view import Seen, View
 from hpb.rules.tree import Tree
@@ -34,7 +34,7 @@ class Model(NamedTuple):
 
 def model_of(tree: Tree, bidders: Sequence[str], view: View) -> Model:
     """The model of a view, with the standing of these bidders; the view has to show them."""
-    texts, marks = {"contact": contact_says(view.contact), "rounds": clock_says(view.schedule)}, {"contact": str(view.contact.state)}
+    texts, marks = {"contact": contact_says(view.contact), "rounds": clock_says(view.schedule), "seal": seal_says(view.seal)}, {"contact": str(view.contact.state)}
     marks["rounds"] = view.schedule.state if view.schedule else ""
     if view.seen is None:
         return Model({**_blank(tree, bidders), **texts}, marks, {"close-list": [], "round-list": [], "news-list": []}, "0")

@@ -64,8 +64,8 @@ def followed(given: argparse.Namespace) -> Followed:
     return Followed(tree, names, places, given.pace)
 
 
-def at_front(given: argparse.Namespace) -> Opens:
-    """A function that makes connections to a front, as the owner of a token. If the token or certificate can't be used,
+def at_front(given: argparse.Namespace, greeted: reaching.Greeted) -> Opens:
+    """A function that makes connections to a front, as the owner of a token. `greeted` gets each greeting. If the token or certificate can't be used,
     `NotFollowed` is raised.
     """
     try:
@@ -75,7 +75,7 @@ def at_front(given: argparse.Namespace) -> Opens:
 
     def connected(patience: float) -> socket.socket:
         try:
-            return reaching.connected(given.front, token, context, patience)
+            return reaching.connected(given.front, token, context, patience, greeted)
         except reaching.GivesUp as fault:
             raise NotFollowed(str(fault)) from None
 

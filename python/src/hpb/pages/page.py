@@ -19,6 +19,8 @@ from hpb.markup import Markup, element
 from hpb.pages.model import BIDDER_FIELDS, NODE_FIELDS, SUMMARY, Model, digest
 from hpb.pages.telling import NOBODY
 from hpb.pages.view import View
+from hpb.rounds import MOCK, NOTICE
+from hpb.rules.mock import is_mock
 from hpb.rules.tree import Tree
 from hpb.rules.writing import definition_line
 
@@ -55,6 +57,8 @@ class Page:
 
     def __init__(self, tree: Tree, bidders: Sequence[str]) -> None:
         self.tree, self.bidders = tree, bidders
+        self.is_mock = is_mock(tree.definition)
+        self.title = f"{MOCK} auction" if self.is_mock else "Auction"
         self.assets = {name: (kind, (STATIC / name).read_bytes()) for name, kind in _ASSETS.items()}
         told = json.dumps([definition_line(tree.definition), list(bidders)]).encode()
         # If a page was loaded from another program or for another auction, it reloads itself.
@@ -78,7 +82,7 @@ class Page:
         head = element(
             "head",
             element("meta", charset="utf-8"),
-            element("title", "Auction"),
+            element("title", self.title),
             element("meta", name="viewport", content="width=device-width, initial-scale=1"),
             element("meta", name="color-scheme", content="light dark"),
             _without_end("link", rel="icon", href=_ICON, type="image/svg+xml"),
@@ -96,9 +100,11 @@ class Page:
         summary = [element("div", element("dt", text), element("dd", model.texts[name], id=name)) for name, text in SUMMARY.items()]
         yield element(
             "header",
-            element("h1", "Auction"),
+            element("h1", self.title),
+            *([element("p", NOTICE, id="mock", class_="mock")] if self.is_mock else []),
             _marked(model, "p", "contact", class_="contact"),
             _marked(model, "p", "rounds", class_="rounds"),
+            _marked(model, "p", "seal", class_="rounds"),
             _listed(model, "news-list", "News of the auctioneer and the round clock"),
             element("dl", *summary, class_="summary"),
             _marked(model, "p", "outlook", class_="outlook"),

@@ -6,8 +6,10 @@ import re
 import socket
 import ssl
 import stat
+from collections.abc import Callable
 
 from hpb.hosts import may_be_host
+from hpb.rounds import MOCK
 
 ADDRESS = "127.0.0.1"
 TOKEN = re.compile(r"[!-~]{16,128}")
@@ -16,6 +18,9 @@ ENDS = (b"ERR 95 order", b"ERR front idle", b"ERR front many")
 # This one answers no question either: the token was taken away meanwhile, and trying again can't help.
 TAKEN_AWAY = b"ERR front token"
 MOST_WELCOME = 256
+
+# Gets whether a greeting says that the auction is a mock.
+Greeted = Callable[[bool], None]
 
 
 class GivesUp(Exception):
@@ -71,14 +76,17 @@ def context_of(given: argparse.Namespace) -> ssl.SSLContext | None:
         raise GivesUp(f"{given.ca}: {fault.strerror or fault}") from None
 
 
-def connected(place: tuple[str, int], token: str | None, context: ssl.SSLContext | None, patience: float) -> socket.socket:
-    """A connection. If there is a token, the front has welcomed it. After an OSError, another try may succeed."""
+def connected(
+    place: tuple[str, int], token: str | None, context: ssl.SSLContext | None, patience: float, greeted: Greeted = lambda says_mock: None,
+) -> socket.socket:
+    """A connection. If there is a token, the front has welcomed it, and `greeted` got the greeting. After an OSError, another try may
+    succeed."""
     connection = dialled(place, patience)
     try:
         if context:
             connection = over_tls(connection, place, context)
         if token:
-            be_welcome(connection, token)
+            greeted(be_welcome(connection, token))
     except BaseException:
         connection.close()
         raise
@@ -108,7 +116,8 @@ def over_tls(connection: socket.socket, place: tuple[str, int], context: ssl.SSL
         raise GivesUp(f"no TLS with {place[0]}, port {place[1]}: {fault.reason or fault}") from None
 
 
-def be_welcome(connection: socket.socket, token: str) -> None:
+def be_welcome(connection: socket.socket, token: str) -> bool:
+    """Says the token. Returns whether the greeting says that the auction is a mock."""
     connection.sendall(f"TOKEN {token}\n".encode())
     line = b""
     # Byte by byte, because the bytes after the welcome are for others to read.
@@ -121,3 +130,4 @@ def be_welcome(connection: socket.socket, token: str) -> None:
         raise ConnectionError(f"it answers {answer.decode()}")
     if not answer.startswith(b"WELCOME "):
         raise GivesUp(f"the token is answered {answer.decode('latin-1')}")
+    return answer.endswith(f" {MOCK}".encode())

@@ -33,6 +33,16 @@ def clock_says(schedule: Schedule | None) -> str:
     }.get(schedule.state, "")
 
 
+def seal_says(seal: str) -> str:
+    """The last seal of a front, with the root that a bidder may keep. Empty if there is none."""
+    words = dict(zip(words[::2], words[1::2])) if (words := seal.split(" ")) and len(words) > 1 else {}
+    if not words:
+        return ""
+    what = f"Round {words['ROUND']} is sealed" if words["ROUND"] != "0" else "The record is sealed"
+    stamped = f", and stamped at {time_says(words['STAMPED'])}" if words.get("STAMPED", "-") != "-" else ""
+    return f"{what}, by seal {words['SEAL']} with {words['ENTRIES']} entries and the root {words['ROOT']}{stamped}."
+
+
 def time_says(time_: str | None) -> str:
     """A time of a front's line, as people read it."""
     return f"{time_[:10]} {time_[11:19]} UTC" if time_ else NOBODY

@@ -180,7 +180,9 @@ class Server(socketserver.ThreadingTCPServer):
         listener: socket.socket | None = None, note: Note = _no_note,
     ) -> None:
         """Listens at an address, or uses a socket that listens already. The page may be asked for by `names`, too."""
+        # `look` is called about twice a second.
         self.note = note
+        self.look: Callable[[], None] = lambda: None
         self.address_family = listener.family if listener else socket.AF_INET6 if ":" in address[0] else socket.AF_INET
         self.names, self.guests, self._context = {"localhost", *(name.lower() for name in names)}, guests, context
         self._room, self.viewers = Places(MOST_CONNECTIONS), Places(MOST_VIEWERS)
@@ -220,6 +222,10 @@ class Server(socketserver.ThreadingTCPServer):
             _cry(f"a connection can't be taken: {fault.strerror or fault}")
         self._is_refused = True
         time.sleep(_ROOM_SECONDS)
+
+    def service_actions(self) -> None:
+        """For `socketserver`."""
+        self.look()
 
     def process_request(self, request: Any, address: Any) -> None:
         """For `socketserver`."""

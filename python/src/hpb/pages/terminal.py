@@ -3,7 +3,7 @@ from collections.abc import Collection, Iterator, Sequence
 from typing import Final
 
 from hpb.amounts import counted, money
-from hpb.pages.rounds import clock_says, news_says
+from hpb.pages.rounds import clock_says, news_says, seal_says
 from hpb.pages.telling import (
     ENOUGH,
     FALLS,
@@ -21,6 +21,7 @@ from hpb.pages.telling import (
 )
 from hpb.pages.view import Seen, State, Told, View
 from hpb.plain import plain
+from hpb.rounds import NOTICE
 from hpb.rules.tree import Tree
 
 BOLD, DIM, GREEN, YELLOW, RED, PLAIN = "\x1b[1m", "\x1b[2m", "\x1b[32m", "\x1b[33m", "\x1b[31m", "\x1b[0m"
@@ -45,10 +46,14 @@ class Style:
 
 def picture(tree: Tree, view: View, style: Style) -> Iterator[str]:
     """All lines of the picture."""
+    if view.is_mock:
+        yield style.of(NOTICE, YELLOW, BOLD)
     contact = contact_says(view.contact)
     yield style.of(contact, GREEN) if view.contact.state in (State.LIVE, State.OVER) else style.of(contact, RED, BOLD)
     if clock := clock_says(view.schedule):
         yield style.of(clock, BOLD)
+    if seal := seal_says(view.seal):
+        yield plain(seal)
     yield from (f"  {plain(line)}" for line in news_says(view.own))
     if view.seen:
         yield from _seen_lines(tree, view.seen, style)
@@ -56,6 +61,8 @@ def picture(tree: Tree, view: View, style: Style) -> Iterator[str]:
 
 def changes(tree: Tree, old: View, new: View) -> Iterator[str]:
     """A line for each change."""
+    if old.is_mock is not new.is_mock:
+        yield NOTICE if new.is_mock else "This is the auction itself, and no mock."
     if old.contact.state != new.contact.state:
         yield contact_says(new.contact)
     last = old.own.news[-1].number if old.own.news else 0

@@ -78,13 +78,16 @@ class Told(NamedTuple):
 
 class View(NamedTuple):
     """Everything known. `seen` is None until the first answers, and so is `schedule` without a front. `told` has the news of each name.
-    `information` is a front's answer to `INFORMATION`, which is empty if it has no rules on that."""
+    `information` is a front's answer to `INFORMATION`, which is empty if it has no rules on that, and `seal` its last seal.
+    `is_mock` says whether it is a mock."""
 
     seen: Seen | None
     contact: Contact
     schedule: Schedule | None = None
     told: Mapping[str, Told] = {}
     information: str = ""
+    is_mock: bool = False
+    seal: str = ""
 
     def only(self, bidders: Iterable[str], name: str = "") -> "View":
         """The same, with these bidders and the news of this name only."""

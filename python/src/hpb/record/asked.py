@@ -86,9 +86,10 @@ class AskedFile:
 
     def put(self, places: dict[int, Asked | None]) -> None:
         """Fills these places, counted from 0, or empties them. Filled places are on the disk when this returns."""
-        for number, asked in places.items():
-            place = filled({"name": asked.name, "line": text_of(asked.line), "at": time_now()}) if asked else EMPTY
-            write_at(self.file, place, (1 + number) * PLACE_BYTES)
+        now = time_now()
+        for first, run in runs_of(places):
+            data = b"".join(filled({"name": one.name, "line": text_of(one.line), "at": now}) if one else EMPTY for one in run)
+            write_at(self.file, data, (1 + first) * PLACE_BYTES)
         if any(places.values()):
             self.sync()
 
@@ -111,6 +112,16 @@ class AskedFile:
 
     def close(self) -> None:
         os.close(self.file)
+
+
+def runs_of(places: dict[int, Asked | None]) -> list[tuple[int, list[Asked | None]]]:
+    """Places that stand side by side, together: the number of the first one of each run, and the run."""
+    runs: list[tuple[int, list[Asked | None]]] = []
+    for number in sorted(places):
+        if not runs or number != runs[-1][0] + len(runs[-1][1]):
+            runs.append((number, []))
+        runs[-1][1].append(places[number])
+    return runs
 
 
 def write_at(file: int, data: bytes, at: int) -> None:

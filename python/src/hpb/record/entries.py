@@ -3,6 +3,7 @@ import hashlib
 import json
 import time
 from collections.abc import Iterator
+from json.encoder import encode_basestring_ascii as quoted  # type: ignore[attr-defined]
 from typing import Any, BinaryIO, NamedTuple
 
 # The first form has all entries in one file, with questions among them. The second form has segments.
@@ -17,6 +18,7 @@ MOST_ENTRY = 2 * MEGABYTE
 MOST_WRITE = 65_536
 # The beginning of a record's first entry, after the hash.
 FIRST = b' {"entry":1,"before":"' + NO_HASH.encode()
+ENCODER = json.JSONEncoder(separators=(",", ":"))
 
 Entry = dict[str, Any]
 
@@ -80,17 +82,30 @@ def content_of(line: bytes) -> Any:
 
 
 def json_of(fields: Entry) -> bytes:
-    return json.dumps(fields, separators=(",", ":")).encode()
+    return text_of_json(fields).encode()
+
+
+def text_of_json(fields: Entry) -> str:
+    """Fields as JSON. If they are texts and whole numbers, as those of a command, this costs less than the encoder and gives the same."""
+    parts = []
+    for name, value in fields.items():
+        if type(value) is str:
+            parts.append(f"{quoted(name)}:{quoted(value)}")
+        elif type(value) is int:
+            parts.append(f"{quoted(name)}:{value}")
+        else:
+            return ENCODER.encode(fields)
+    return f"{{{','.join(parts)}}}"
 
 
 def entry_line(place: Place, kind: str, fields: Entry, at: str | None = None, synced: int | None = None) -> tuple[bytes, Place]:
     """The line of the next entry after `place`, and the place behind it. `synced` is the number of the last entry on the disk at that time.
     Entries of the first form don't have it."""
-    entry = {"entry": place.number + 1, "before": place.hash}
-    if synced is not None:
-        entry["synced"] = synced
-    line = sealed(json_of({**entry, "at": at or time_now(), "kind": kind, **fields}))
-    return line, Place(place.number + 1, line[:HASH_BYTES].decode())
+    number = place.number + 1
+    on_disk = "" if synced is None else f'"synced":{synced},'
+    head = f'{{"entry":{number},"before":"{place.hash}",{on_disk}"at":"{at or time_now()}","kind":"{kind}"'
+    line = sealed(f"{head},{text_of_json(fields)[1:]}".encode() if fields else f"{head}}}".encode())
+    return line, Place(number, line[:HASH_BYTES].decode())
 
 
 def time_now() -> str:

@@ -4,6 +4,7 @@ import fcntl
 import hashlib
 import os
 from collections.abc import Sequence
+from typing import Protocol
 
 from hpb.own_files import is_at, look_at_owner, open_own
 from hpb.record.asked import AskedFile, Mark
@@ -20,6 +21,15 @@ from hpb.record.state import State
 from hpb.record.torn import may_be_first, may_be_one_write
 
 HOW = os.O_RDWR | os.O_APPEND
+# The kind of an entry whose fields are texts, so that they come back from JSON as they are.
+ACCEPTED = "accepted"
+
+
+class Book(Protocol):
+    """Completes entries that are about to be written behind a place, and learns of each with its segment and its place there."""
+
+    def completed(self, entry: New, place: Place) -> Entry: ...
+    def took(self, line: bytes, segment: int, at: int) -> None: ...
 
 
 class RecordFile:
@@ -46,6 +56,8 @@ class RecordFile:
         self.place, self.state, self.digest, self.length = Place(), State(), hashlib.sha256(), 0
         self.segment = 1
         self.not_kept: NotKept | None = None
+        # With seals, what completes each entry, and learns of it.
+        self.book: Book | None = None
 
     # The start.
 
@@ -167,19 +179,23 @@ class RecordFile:
             raise
 
     def add(self, entries: Sequence[New]) -> None:
-        place, lines = self.place, []
+        place, lines, at = self.place, list[bytes](), self.length
         for entry in entries:
-            line, place = entry_line(place, entry.kind, entry.fields, entry.at, self.place.number)
+            fields = self.book.completed(entry, place) if self.book else entry.fields
+            line, place = entry_line(place, entry.kind, fields, entry.at, self.place.number)
+            if self.book:
+                self.book.took(line, self.segment, at)
             lines.append(line)
+            at += len(line)
         data = b"".join(lines)
         write_all(self.file, data)
         os.fdatasync(self.file)
-        for line in lines:
-            self.state.take(content_of(line))
+        for entry, line in zip(entries, lines, strict=True):
+            self.state.take({"kind": entry.kind, **entry.fields} if entry.kind == ACCEPTED else content_of(line))
         self.digest.update(data)
         self.length, self.place = self.length + len(data), place
         self.asked.note(place)
-        if entries[-1].kind == "stopped":
+        if entries[-1].kind in ("stopped", "seal"):
             self.asked.sync()
 
     def begin(self, definition: object) -> None:
@@ -201,6 +217,8 @@ class RecordFile:
             os.close(self.file)
         self.file = open_own(path, HOW, may_make=False)
         self.state.take(content_of(line))
+        if self.book:
+            self.book.took(line, self.segment, 0)
         self.digest, self.length, self.place = hashlib.sha256(line), len(line), place
         self.asked.note(place)
 

@@ -3,6 +3,7 @@
 An entry `clock` has the whole state of the round clock after a change, so the last one is enough to go on. News are for
 everybody or for one name: each has a number, and stands in the entry of its change.
 """
+from collections.abc import Iterable
 from typing import NamedTuple
 
 from hpb.record.entries import Entry
@@ -11,7 +12,7 @@ ALL = "all"
 CLOCK, SAID, READ = "clock", "said", "read"
 # The order of first high bids, from which pseudonyms follow; and that all is unveiled.
 MET, UNVEILED = "met", "unveiled"
-# So many news are kept for those who ask.
+# So many news are kept for each name. Those for one name push out none of another's, since that would show that there were some.
 MOST_NEWS = 200
 # The fields of the clock's state in an entry; besides them it has `what` happened, and the number of its news as `news`.
 STATE_FIELDS = ("round", "closed", "time", "state", "opens", "until", "ends", "paused", "left", "slot")
@@ -26,6 +27,15 @@ class News(NamedTuple):
     to: str
     text: str
     entry: int = 0
+
+
+def kept(news: Iterable[News], one: News) -> list[News]:
+    """The kept news after one more: the last ones for all, and the last ones for each name."""
+    found = [*news, one]
+    same = [place for place, other in enumerate(found) if other.to == one.to]
+    if len(same) > MOST_NEWS:
+        del found[same[0]]
+    return found
 
 
 def news_of(entry: Entry) -> News | None:

@@ -10,6 +10,7 @@ import re
 import stat
 from collections.abc import Iterable, Iterator
 from dataclasses import dataclass
+from typing import Any
 
 from hpb.own_files import MODE, give_name, open_own
 from hpb.record.entries import (
@@ -93,6 +94,16 @@ def number_of(found: str, name: str) -> int:
 def first_line(path: str) -> bytes:
     with open(path, "rb") as file:
         return file.readline(MOST_ENTRY)
+
+
+def definition_in(path: str) -> Any:
+    """The definition in the first entry of a record; None if there is no whole one."""
+    try:
+        # Opening a pipe would wait for a writer.
+        line = first_line(path) if stat.S_ISREG(os.stat(path).st_mode) else b""
+        return content_of(line).get("definition") if is_sealed(line) else None
+    except (OSError, Damaged):
+        return None
 
 
 def last_hash(path: str) -> str:

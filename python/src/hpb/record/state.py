@@ -4,7 +4,7 @@ from typing import Any
 
 from hpb.front.rights import sender_and_ticket
 from hpb.record.entries import FIRST_FORM, FORM, Damaged, Entry
-from hpb.record.news import CLOCK, MET, MOST_NEWS, READ, SAID, STATE_FIELDS, UNVEILED, News, news_of
+from hpb.record.news import CLOCK, MET, READ, SAID, STATE_FIELDS, UNVEILED, News, kept, news_of
 
 # The key for the auctioneer among the senders in a segment's first entry.
 AUCTIONEER = ""
@@ -82,7 +82,7 @@ class State:
         elif entry["kind"] == UNVEILED:
             self.is_unveiled = True
         if news := news_of(entry):
-            self.news = [*self.news, news][-MOST_NEWS:]
+            self.news = kept(self.news, news)
             self.told[news.to] = self.told.get(news.to, 0) + 1
 
     def begin(self, entry: Entry) -> None:

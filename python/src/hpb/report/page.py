@@ -1,6 +1,6 @@
 """The page about an auction's file (docs/REPORT.md). It has no script and needs no other file."""
 import pathlib
-from collections.abc import Iterator
+from collections.abc import Iterable, Iterator, Sequence
 from typing import Final
 
 from hpb.amounts import money
@@ -10,8 +10,10 @@ from hpb.lines import Shown
 from hpb.markup import Markup, element
 from hpb.report.closing import Report
 from hpb.report.pieces import notice, strong
-from hpb.report.rest import bidders_section, definition_section, stages_section
+from hpb.report.rest import bidders_section, definition_section, record_section, stages_section
 from hpb.report.result import certificate_section, found_again_section, nodes_section, result_section, tree_section
+from hpb.rounds import MOCK, NOTICE
+from hpb.rules.mock import MARK, is_mock
 
 _STYLE: Final = pathlib.Path(__file__).with_name("report.css")
 _SECTIONS = (
@@ -20,17 +22,23 @@ _SECTIONS = (
 )
 
 
-def page(report: Report) -> str:
-    """The whole page. Equal bytes of a file give an equal page."""
+def page(report: Report, sums: Sequence[str] = ()) -> str:
+    """The whole page. Equal bytes of a file give an equal page. `sums` are the lines of the record that belongs to the file, if it is named."""
     shown = report.told.shown
-    title = f"Auction, round {money(shown.round)}, {_state_of(shown)}"
+    title = f"{f'{MOCK} auction' if is_mock(report.tree.definition) else 'Auction'}, round {money(shown.round)}, {_state_of(shown)}"
+    named = [record_section(sums)] if sums else []
+    return document(title, [*_notices(report), _summary(report), *(made(report) for made in _SECTIONS), *named])
+
+
+def document(title: str, parts: Iterable[Markup]) -> str:
+    """A page with a title and its parts."""
     head = element(
         "head", element("meta", charset="utf-8"), element("meta", name="viewport", content="width=device-width, initial-scale=1"),
         element("meta", name="color-scheme", content="light dark"),
         element("meta", http_equiv="Content-Security-Policy", content="default-src 'none'; style-src 'unsafe-inline'"),
         element("title", title), element("style", Markup("\n" + _STYLE.read_text(encoding="utf-8") + PICTURE_STYLE)),
     )
-    main_part = element("main", element("h1", title), *_notices(report), _summary(report), *(made(report) for made in _SECTIONS))
+    main_part = element("main", element("h1", title), *parts)
     return Markup("<!DOCTYPE html>\n") + element("html", head, element("body", main_part), lang="en") + "\n"
 
 
@@ -39,6 +47,8 @@ def _state_of(shown: Shown) -> str:
 
 
 def _notices(report: Report) -> Iterator[Markup]:
+    if is_mock(report.tree.definition):
+        yield notice(strong(NOTICE), f" The bidder {MARK} marks it, and nobody bids for that.", is_fault=False)
     for fault in report.faults:
         yield notice(strong("Not right: "), fault, ".", is_fault=True)
     shown = report.told.shown

@@ -7,6 +7,7 @@ from hpb.markup import Markup, element
 from hpb.report.closing import FALLS, Report
 from hpb.report.pieces import Column, Row, paragraph, section, table, text_column
 from hpb.rules.writing import definition_line
+from hpb.seals.sums import NAME
 
 
 def bidders_section(report: Report) -> Markup:
@@ -77,6 +78,19 @@ def definition_section(report: Report) -> Markup:
         element("pre", "sha256sum FILE\ntools/definition FILE | sha256sum\nhpb check --file FILE", tabindex="0"),
     ]
     return section("definition", "Definition and sums of bytes", *parts)
+
+
+def record_section(sums: Sequence[str]) -> Markup:
+    """The record that belongs to the file, and its seals, as lines that are compared word for word."""
+    told = (
+        "The file's SHA-256; the record by the hash of its first entry, the number of its entries and the hash of the last one; and each seal with "
+        "its signature. Each seal names the round, and binds all entries before it."
+    )
+    return section(
+        "record", "Record and seals", paragraph(told), element("pre", "\n".join(sums), id=NAME, tabindex="0"),
+        paragraph("To compare them with the record and the file:"),
+        element("pre", "hpb-verify --record RECORD --file FILE --key KEY --report REPORT", tabindex="0"),
+    )
 
 
 def _digest(data: bytes) -> Markup:

@@ -9,6 +9,7 @@ from dataclasses import dataclass
 from hpb.lines import Accepted, Bid, Close, Command, Stage, Waive, numbered
 from hpb.rules.activity import activity_needed, settle
 from hpb.rules.auction import Auction, BidderState, HighBid, apply
+from hpb.rules.mock import MARK
 from hpb.rules.standing import standing_of
 from hpb.rules.told import NotTold, Told
 from hpb.rules.tree import Tree
@@ -56,9 +57,9 @@ class Preview:
 
 
 def preview(auction: Auction) -> Preview:
-    """What a close of an open auction would do now."""
+    """What a close of an open auction would do now. The bidder that marks a mock isn't counted."""
     after = taken(auction, Close())
-    bidders = {bidder: _prospect(auction, bidder) for bidder in auction.bidders}
+    bidders = {bidder: _prospect(auction, bidder) for bidder in auction.bidders if bidder != MARK}
     return Preview(auction.round, after.standing.revenue, after.is_over, bidders)
 
 

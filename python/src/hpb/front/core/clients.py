@@ -3,13 +3,14 @@ import collections
 
 from hpb.front.core import rounds
 from hpb.front.core.effects import Abort, Answer, End, Field, Take, Wait
-from hpb.front.core.events import Came, Gone, Line, LinesEnded, OfClient, Opened, Reloaded, Stuffed, TooLong, Waited
-from hpb.front.core.state import Connection, Going, Item
+from hpb.front.core.events import Came, Gone, LinesEnded, OfClient, Opened, Reloaded, Stuffed, TooLong, Waited
+from hpb.front.core.state import Connection, Going, Item, item_of
 from hpb.front.core.stepping import Step
 from hpb.front.core.values import changed
 from hpb.front.limits import BURST_SECONDS
 from hpb.front.rights import FORM, IDLE, LONG, MANY, TOKEN, UNKNOWN, refused, welcome
 
+STAYS = Going.STAYS
 # The first line has a token of 128 characters at most.
 MOST_FIRST_LINE = 160
 
@@ -18,14 +19,15 @@ def take(step: Step, event: OfClient) -> None:
     """Handles an event of a connection. Events of a connection that has ended are ignored."""
     if isinstance(event, Came):
         come(step, event)
-        return
-    if event.connection not in step.front.connections:
-        return
+    elif event.connection in step.front.connections:
+        take_known(step, event)
+
+
+def take_known(step: Step, event: OfClient) -> None:
+    """Handles an event of a connection that came and hasn't gone."""
     match event:
         case Opened(number):
             open_up(step, number)
-        case Line(number, line):
-            take_line(step, number, line)
         case TooLong(number, beginning):
             take_long(step, number, beginning)
         case LinesEnded(number, rest):
@@ -63,7 +65,7 @@ def make_room(step: Step) -> None:
 def open_up(step: Step, number: int) -> None:
     """The connection can be written to. If it was to end before that, it ends now."""
     connection = step.set_connection(number, is_open=True)
-    if connection.going == Going.STAYS:
+    if connection.going is Going.STAYS:
         let_send(step, number)
     else:
         step.do(Abort(number))
@@ -92,7 +94,7 @@ def without(numbers: tuple[int, ...], number: int) -> tuple[int, ...]:
 def dismiss(step: Step, number: int, word: str = "") -> None:
     """Ends the connection. If there is a word for the reason, a last line says it; nothing is written after that."""
     connection = step.front.connections[number]
-    if connection.going == Going.CLOSED:
+    if connection.going is Going.CLOSED:
         return
     step.set_connection(number, going=Going.CLOSED, why=connection.why or word)
     if not connection.is_open:
@@ -128,7 +130,7 @@ def know(step: Step, number: int, line: bytes) -> None:
         return
     step.set(unknown=without(step.front.unknown, number))
     step.set_name(token.name, connections=(*step.front.names[token.name].connections, number))
-    step.do(Answer(number, welcome(token.name)))
+    step.do(Answer(number, welcome(token.name, step.front.setting.is_mock)))
 
 
 def has_room(step: Step, name: str) -> bool:
@@ -145,7 +147,7 @@ def has_room(step: Step, name: str) -> bool:
 
 def is_idle(connection: Connection) -> bool:
     """Whether it stays, and no line of it waits: neither for its answer nor until its name may send one more."""
-    return connection.going == Going.STAYS and not connection.waiting and not connection.held
+    return connection.going is Going.STAYS and not connection.waiting and not connection.held
 
 
 def reload(step: Step, event: Reloaded) -> None:
@@ -157,7 +159,7 @@ def reload(step: Step, event: Reloaded) -> None:
             forget(step, number)
             step.set_connection(number, is_barred=True)
             dismiss(step, number, UNKNOWN)
-        elif connection.may_send and connection.going == Going.STAYS:
+        elif connection.may_send and connection.going is Going.STAYS:
             allow(step, number)
         else:
             let_send(step, number)
@@ -168,10 +170,11 @@ def reload(step: Step, event: Reloaded) -> None:
 
 def let_send(step: Step, number: int) -> None:
     """Lets a connection send a line, if there is room for it."""
-    connection, limits = step.front.connections[number], step.front.limits
-    is_ready = connection.is_open and connection.going == Going.STAYS and not connection.has_ended
-    if is_ready and not connection.may_send and not connection.held and connection.waiting < limits.lines_waiting:
-        step.set_connection(number, may_send=True)
+    connection = step.front.connections[number]
+    if connection.may_send or connection.held or connection.waiting >= step.front.limits.lines_waiting:
+        return
+    if connection.is_open and connection.going is STAYS and not connection.has_ended:
+        step.connection(number).may_send = True
         allow(step, number)
 
 
@@ -184,19 +187,22 @@ def allow(step: Step, number: int) -> None:
 def may_take(step: Step, number: int) -> bool:
     """Whether an event's line is used: only if the connection was allowed to send one. The connection then has to wait until it may send
     the next."""
-    connection = step.front.connections[number]
-    is_right = connection.may_send and connection.going == Going.STAYS
-    step.set_connection(number, may_send=False, seen=step.front.time if is_right else connection.seen)
-    return is_right
+    if not step.front.connections[number].may_send:
+        return False
+    connection = step.connection(number)
+    connection.may_send = False
+    if connection.going is not STAYS:
+        return False
+    connection.seen = step.front.time
+    return True
 
 
 def take_line(step: Step, number: int, line: bytes) -> None:
     """Takes a whole line. From an unknown connection it is the token, from any other one a line for the server."""
-    if not may_take(step, number):
+    if number not in step.front.connections or not may_take(step, number):
         return
-    token = step.front.connections[number].token
-    if token:
-        take_in_turn(step, Item(number, token, line, step.front.names[token.name].role.refusal(line)))
+    if token := step.front.connections[number].token:
+        take_in_turn(step, item_of(number, token, line, step.front.names[token.name].role.refusal(line)))
     else:
         know(step, number, line)
     let_send(step, number)
@@ -207,7 +213,7 @@ def take_long(step: Step, number: int, beginning: bytes) -> None:
     if not may_take(step, number):
         return
     if token := step.front.connections[number].token:
-        take_in_turn(step, Item(number, token, beginning, LONG))
+        take_in_turn(step, item_of(number, token, beginning, LONG))
     else:
         dismiss(step, number, UNKNOWN)
 
@@ -218,7 +224,7 @@ def take_end(step: Step, number: int, rest: bytes) -> None:
         return
     token = step.set_connection(number, has_ended=True, going=Going.LEAVES).token
     if rest and token:
-        queue(step, Item(number, token, rest, FORM))
+        queue(step, item_of(number, token, rest, FORM))
     go_when_answered(step, number)
 
 
@@ -226,11 +232,11 @@ def take_in_turn(step: Step, item: Item) -> None:
     """Takes a line at once if its name's rate allows it. Else the line waits until the rate does."""
     number = item.connection
     if seconds := wait_seconds(step, item.token.name):
-        step.set_connection(number, held=item)
+        step.connection(number).held = item
         step.do(Wait(number, seconds))
         return
     if step.front.connections[number].held:
-        step.set_connection(number, held=None)
+        step.connection(number).held = None
     if item.refusal == LONG:
         step.set_connection(number, going=Going.LEAVES, why=LONG)
     queue(step, item)
@@ -239,53 +245,58 @@ def take_in_turn(step: Step, item: Item) -> None:
 def wait_over(step: Step, number: int) -> None:
     """The wait of a line is over: it is taken, unless its name has to wait again."""
     connection = step.front.connections[number]
-    if connection.held and connection.going == Going.STAYS:
-        take_in_turn(step, connection.held)
+    if connection.held and connection.going is Going.STAYS:
+        take_in_turn(step, changed(connection.held))
         let_send(step, number)
 
 
 def wait_seconds(step: Step, name: str) -> float:
     """Counts one line against the name's rate, and returns 0. If the rate doesn't allow it yet, returns the seconds to wait."""
-    known, now, rate = step.front.names[name], step.front.time, step.front.limits.lines_per_second
+    known, now, rate = step.name(name), step.front.time, step.front.limits.lines_per_second
     credit = min(known.credit + (now - known.seen) * rate, BURST_SECONDS * rate)
     has_leave = credit >= 1
-    step.set_name(name, credit=credit - has_leave, seen=now)
+    known.credit, known.seen = credit - has_leave, now
     return 0 if has_leave else (1 - credit) / rate
 
 
 def queue(step: Step, item: Item) -> None:
-    """Puts a line at the end of its name's lines, to be answered in turn."""
-    connection = step.front.connections[item.connection]
-    item = changed(item, number=step.front.taken + 1, round=rounds.mark(step.front))
+    """Puts a line that nobody else has at the end of its name's lines, to be answered in turn."""
+    front, name = step.front, item.token.name
+    item.number, item.round = front.taken + 1, rounds.mark(front)
     step.set(taken=item.number)
-    step.set_connection(item.connection, waiting=connection.waiting + 1, taken=connection.taken + 1)
-    name, known = item.token.name, step.front.names[item.token.name]
-    step.set_name(name, items=(*known.items, item))
+    connection, known = step.connection(item.connection), step.name(name)
+    connection.waiting += 1
+    connection.taken += 1
     if not known.items:
-        step.set_session(known.session, turns=(*step.front.sessions[known.session].turns, name))
+        step.session(known.session).turns += (name,)
+    known.items += (item,)
 
 
 def answer(step: Step, number: int, line: bytes) -> None:
     """Sends the answer to a line, unless the connection has ended or is ending."""
-    if (connection := step.front.connections.get(number)) is None:
+    if number not in step.front.connections:
         return
-    step.set_connection(number, waiting=connection.waiting - 1, seen=step.front.time)
-    if connection.going != Going.CLOSED:
+    connection = step.connection(number)
+    connection.waiting -= 1
+    connection.seen = step.front.time
+    if connection.going is not Going.CLOSED:
         step.do(Answer(number, line))
-        go_when_answered(step, number)
-        let_send(step, number)
+        if connection.going is not STAYS:
+            go_when_answered(step, number)
+        elif not connection.may_send:
+            let_send(step, number)
 
 
 def drop(step: Step, number: int) -> None:
     """Drops a line of the connection: it never goes to the server, and gets no answer."""
-    if connection := step.front.connections.get(number):
-        step.set_connection(number, waiting=connection.waiting - 1)
+    if number in step.front.connections:
+        step.connection(number).waiting -= 1
 
 
 def go_when_answered(step: Step, number: int) -> None:
     """Ends a connection that is to leave, if all its lines are answered."""
     connection = step.front.connections[number]
-    if connection.going == Going.LEAVES and not connection.waiting:
+    if connection.going is Going.LEAVES and not connection.waiting:
         dismiss(step, number)
 
 
@@ -297,7 +308,7 @@ def sweep(step: Step) -> None:
     limits = step.front.limits
     for number, connection in step.front.connections.items():
         silent = step.front.time - connection.seen
-        if connection.going == Going.CLOSED or silent <= (limits.idle_seconds if connection.token else limits.token_seconds):
+        if connection.going is Going.CLOSED or silent <= (limits.idle_seconds if connection.token else limits.token_seconds):
             continue
         if connection.is_full and connection.token:
             step.set_connection(number, going=Going.CLOSED)
@@ -309,7 +320,7 @@ def sweep(step: Step) -> None:
 def close(step: Step) -> None:
     """No more lines are taken. Each connection ends once all its lines are answered."""
     for number, connection in step.front.connections.items():
-        if connection.waiting and connection.going == Going.STAYS:
+        if connection.waiting and connection.going is Going.STAYS:
             step.set_connection(number, going=Going.LEAVES, held=None)
         elif not connection.waiting:
             dismiss(step, number)

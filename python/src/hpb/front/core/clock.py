@@ -108,6 +108,8 @@ class Rounds:
     # When the clock was last looked at, and when the record last heard of it.
     seen: float = 0.0
     beat: float = 0.0
+    # The number of the last entry from which this state follows, since the front's start.
+    entry: int = 0
 
     def fields(self, now: float) -> Entry:
         """The state as an entry has it."""

@@ -4,23 +4,33 @@ from hpb.front.core.clock import At, Why
 from hpb.front.core.information import seen_by
 from hpb.front.core.state import Front, Item
 from hpb.front.core.stepping import Step
-from hpb.front.rights import CLOCK, CLOSED, END, FORM, NOT_KNOWN, ROUND, RUNNING, SECOND, WHOLE, for_server, is_close, refused, sender_and_ticket
+from hpb.front.rights import CLOCK, CLOSED, END, FORM, NOT_KNOWN, ROUND, RUNNING, SECOND, for_server, is_close, is_whole, refused, sender_and_ticket
 from hpb.front.times import NoTime, read_time, text_of_time
 from hpb.record.entries import text_of
 from hpb.record.news import ALL
 from hpb.rules.preview import Preview
 
 
+# The questions about things that are on the disk already. A READ that changes something isn't one.
+QUESTIONS = (b"EVENT", b"INFORMATION", b"READ ")
+
+
 class No(Exception):
     """The front refuses a line by this word."""
 
 
-def answer(step: Step, name: str, line: bytes) -> bytes:
-    """The answer to a line. It leaves once all entries up to now are on the disk."""
+def answer(step: Step, name: str, line: bytes) -> tuple[bytes, int]:
+    """The answer to a line, and the number of the entry that has to be on the disk before it leaves. A question waits for no entry of which
+    it doesn't tell: else its time would show that others have sent commands."""
+    before = step.front.ledger.written
     try:
-        return answered(step, name, line)
+        told = answered(step, name, line)
     except No as no:
-        return refused(str(no))
+        told = refused(str(no))
+    if line == b"SCHEDULE":
+        return told, step.front.rounds.entry
+    is_question = line.startswith(QUESTIONS) and step.front.ledger.written == before
+    return told, 0 if is_question else step.front.ledger.written
 
 
 def answered(step: Step, name: str, line: bytes) -> bytes:
@@ -29,9 +39,9 @@ def answered(step: Step, name: str, line: bytes) -> bytes:
         case ["SCHEDULE"]:
             return schedule_line(step.front)
         case ["EVENT"]:
-            return news.next_line(step.front, name, None, step.front.ledger.written)
+            return news.next_line(step.front, name, None, step.front.ledger.synced)
         case ["EVENT", number]:
-            return news.next_line(step.front, name, 0 if number == "0" else number_in(number), step.front.ledger.written)
+            return news.next_line(step.front, name, 0 if number == "0" else number_in(number), step.front.ledger.synced)
         case ["READ", number]:
             news.read(step, name, 0 if number == "0" else number_in(number))
             return f"READ {step.front.read.get(name, 0)}".encode()
@@ -61,7 +71,7 @@ def answered(step: Step, name: str, line: bytes) -> bytes:
 
 
 def number_in(word: str) -> int:
-    if not WHOLE.fullmatch(word.encode("latin-1")):
+    if not is_whole(word.encode("latin-1")):
         raise No(FORM)
     return int(word)
 

@@ -1,7 +1,10 @@
-"""The effects of an event: the shells round the front's core carry them out, in this order."""
+"""The effects of an event: the shells round the front's core carry them out, in this order.
+
+Effects of which each command has one are named tuples, which cost less to make than other values.
+"""
 from collections.abc import Mapping
 from dataclasses import dataclass
-from typing import TypeAlias
+from typing import NamedTuple, TypeAlias
 
 from hpb.record.entries import Entry
 
@@ -20,8 +23,7 @@ class Shut:
     """Takes no more connections."""
 
 
-@dataclass(frozen=True, slots=True)
-class Take:
+class Take(NamedTuple):
     """Lets the connection send one more line, of at most so many bytes, or end its lines. No more is read before this."""
 
     connection: int
@@ -36,8 +38,7 @@ class Wait:
     seconds: float
 
 
-@dataclass(frozen=True, slots=True)
-class Answer:
+class Answer(NamedTuple):
     """Sends a line to a client."""
 
     connection: int
@@ -79,8 +80,7 @@ class EndServer:
     seconds: float
 
 
-@dataclass(frozen=True, slots=True)
-class Tell:
+class Tell(NamedTuple):
     """Sends a line to the server. `Answered` follows, or `ServerGone` if the server ends before its answer."""
 
     session: int
@@ -90,16 +90,14 @@ class Tell:
 # The record.
 
 
-@dataclass(frozen=True, slots=True)
-class Write:
+class Write(NamedTuple):
     """Writes an entry into the record. A later `Synced` says that it is on the disk."""
 
     kind: str
     fields: Entry
 
 
-@dataclass(frozen=True, slots=True)
-class PutBeside:
+class PutBeside(NamedTuple):
     """Writes a command into a place beside the record. A later `StandsBeside` says that it is on the disk."""
 
     place: int
@@ -117,6 +115,18 @@ class FreeBeside:
 @dataclass(frozen=True, slots=True)
 class EmptyBeside:
     """Empties all places beside the record. `BesideEmptied` follows."""
+
+
+# Seals.
+
+
+@dataclass(frozen=True, slots=True)
+class LookUp:
+    """Looks up a seal (`SEAL`) or the receipt of a command (`RECEIPT`) by its number, for a session. `LookedUp` follows."""
+
+    session: int
+    what: str
+    number: int
 
 
 # All else.
@@ -179,4 +189,4 @@ class Finish:
 OnClient: TypeAlias = Admit | Shut | Take | Wait | Answer | End | Abort
 OnServer: TypeAlias = StartServer | DropServer | EndServer | Tell
 OnRecord: TypeAlias = Write | PutBeside | FreeBeside | EmptyBeside
-Effect: TypeAlias = OnClient | OnServer | OnRecord | StartBoard | AnswerBoard | Wake | Publish | Say | Note | MustEnd | Finish
+Effect: TypeAlias = OnClient | OnServer | OnRecord | LookUp | StartBoard | AnswerBoard | Wake | Publish | Say | Note | MustEnd | Finish

@@ -1,6 +1,6 @@
 """How a front ends: it answers the lines that it has, writes the record's last entry, and ends the server, each within its time."""
-from hpb.front.core import clients
-from hpb.front.core.effects import EndServer, MustEnd, Publish, Shut, Wake
+from hpb.front.core import clients, sealing
+from hpb.front.core.effects import EndServer, MustEnd, Shut, Wake
 from hpb.front.core.state import For, Phase, Stage
 from hpb.front.core.stepping import Step
 
@@ -67,6 +67,7 @@ def close(step: Step) -> None:
         step.say(f"{left} lines that were taken have no answer, as when a disk hangs: their clients send them again")
     step.set(phase=Phase.CLOSING, left=left)
     step.write("stopped", count=step.front.ledger.count)
+    sealing.seal_end(step)
 
 
 def look_at_end(step: Step, words: str, status: int | None) -> None:
@@ -84,7 +85,7 @@ def look_at_end(step: Step, words: str, status: int | None) -> None:
         step.say(said)
     number, digest = step.front.ledger.place
     step.note("stopped", count=count)
-    step.do(Publish(f"STOPPED {count} RECORD {number} {digest}"))
+    step.publish(f"STOPPED {count} RECORD {number} {digest}")
     step.finish()
 
 

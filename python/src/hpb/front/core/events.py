@@ -1,7 +1,10 @@
-"""What happens to a front. A connection is a number that is never used again; a session is a place, from 0."""
+"""What happens to a front. A connection is a number that is never used again; a session is a place, from 0.
+
+Events of which each command has one are named tuples, which cost less to make than other values.
+"""
 from collections.abc import Mapping
 from dataclasses import dataclass, field
-from typing import TypeAlias
+from typing import NamedTuple, TypeAlias
 
 from hpb.front.limits import Limits
 from hpb.front.tokens import Tokens
@@ -27,8 +30,7 @@ class Opened:
     connection: int
 
 
-@dataclass(frozen=True, slots=True)
-class Line:
+class Line(NamedTuple):
     """The line came that the connection was allowed to send."""
 
     connection: int
@@ -106,8 +108,7 @@ class ServerGone:
     how: str
 
 
-@dataclass(frozen=True, slots=True)
-class Answered:
+class Answered(NamedTuple):
     """The server has answered the line of a session."""
 
     session: int
@@ -137,11 +138,24 @@ class Left:
     asked: int = 0
 
 
+@dataclass(frozen=True)
+class SealOnDisk:
+    """A seal that is on the disk, by its number. `round` is the round that it seals, or 0 at a front's end, and `count` the number of commands by
+    then. `line` has the statement and the signature. Without a stamp `stamped_at` is empty."""
+
+    number: int
+    round: int
+    count: int
+    line: str
+    stamped_at: str = ""
+
+
 @dataclass(frozen=True, slots=True)
 class RecordOpened:
     """The record is open, and this is its state. `left` are the commands without an answer, in the record and beside it. `lines` are the
     commands of the open round, if they are known. `clock` is the last state of the round clock, if there was one. `order` has the bidders in
-    the order of their first high bids, as far as pseudonyms need it, and `is_unveiled` says whether all was unveiled."""
+    the order of their first high bids, as far as pseudonyms need it, and `is_unveiled` says whether all was unveiled. If the front has seals,
+    `closed` is the number of the last CLOSE, `sealed` that of the last one with a seal, and `seal` the last seal."""
 
     count: int
     used: Mapping[str | None, int]
@@ -155,18 +169,20 @@ class RecordOpened:
     read: Mapping[str, int] = field(default_factory=dict)
     order: tuple[str, ...] = ()
     is_unveiled: bool = False
+    closed: int = 0
+    sealed: int = 0
+    seal: SealOnDisk | None = None
 
 
-@dataclass(frozen=True, slots=True)
-class Synced:
-    """So many more of the written entries are on the disk, in their order. `place` is behind the last one."""
+class Synced(NamedTuple):
+    """So many more of the written entries are on the disk, in their order. `place` is behind the last one. `seals` are those among them."""
 
     entries: int
     place: Place
+    seals: tuple[SealOnDisk, ...] = ()
 
 
-@dataclass(frozen=True, slots=True)
-class StandsBeside:
+class StandsBeside(NamedTuple):
     """The commands in these places beside the record are on the disk."""
 
     places: tuple[int, ...]
@@ -178,6 +194,29 @@ class BesideEmptied:
 
 
 OfRecord: TypeAlias = RecordOpened | Synced | StandsBeside | BesideEmptied
+
+# Seals.
+
+
+@dataclass(frozen=True, slots=True)
+class LookedUp:
+    """A seal or a receipt for a session. `of_command` is the line of the command whose receipt it is. Without a seal `text` is empty."""
+
+    session: int
+    text: str = ""
+    of_command: bytes = b""
+
+
+@dataclass(frozen=True, slots=True)
+class Stamped:
+    """A stamp was given for the seal with this number: its time, and its token in base64."""
+
+    number: int
+    time: str
+    token: str
+
+
+OfSeals: TypeAlias = LookedUp | Stamped
 
 # All else.
 
@@ -238,4 +277,4 @@ class Failed:
     why: str
 
 
-Event: TypeAlias = OfClient | OfServer | OfRecord | BoardUp | BoardAsks | Unpublished | Reloaded | Tick | ClockRead | Stop | Failed
+Event: TypeAlias = OfClient | OfServer | OfRecord | OfSeals | BoardUp | BoardAsks | Unpublished | Reloaded | Tick | ClockRead | Stop | Failed

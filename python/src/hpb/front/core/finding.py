@@ -2,9 +2,9 @@
 record before anybody is let in."""
 from typing import Any
 
-from hpb.front.core import matching, news, rounds, sessions, veil
+from hpb.front.core import matching, news, rounds, sealing, sessions, veil
 from hpb.front.core.books import books_of
-from hpb.front.core.effects import Admit, EmptyBeside, Publish, StartBoard, Wake
+from hpb.front.core.effects import Admit, EmptyBeside, StartBoard, Wake
 from hpb.front.core.events import Left, RecordOpened
 from hpb.front.core.ledger import WHERE_THE_AUDIT_ENDS, Foreign, Held
 from hpb.front.core.state import Finding, For, Phase
@@ -27,6 +27,7 @@ def begin(step: Step, event: RecordOpened) -> None:
     step.set_ledger(count=event.count, place=event.place)
     step.set(books=books_of(event.lines), **news.restored(event.news, event.told, event.read))
     veil.begin(step, event)
+    sealing.begin(step, event)
     rounds.change(step, is_on=step.front.setting.plan is not None or bool(event.clock), saved=event.clock)
     sessions.tell(step, FIRST, asked[0], For.START)
 
@@ -132,7 +133,7 @@ def note(step: Step) -> None:
     if (count := sum(finding.used.values())) > step.front.ledger.count:
         sessions.note_foreign(step, Foreign(step.front.ledger.count + 1, count))
     # From here on the ledger knows the senders of all commands in the file.
-    step.set_ledger(used=finding.used, has_strangers=False)
+    step.set_ledger(used=dict(finding.used), has_strangers=False)
     step.set(books=step.front.books.began(tree, told))
     step.set(phase=Phase.NOTING)
     go_on(step)
@@ -170,10 +171,11 @@ def let_in(step: Step) -> None:
 def admit(step: Step, board: str = "") -> None:
     """Lets clients in. `board` is the page's line for standard output."""
     step.set(phase=Phase.OPEN)
-    step.do(Admit(), Publish(f"LISTENING {step.front.setting.address}"), Wake(0.0))
+    step.do(Admit(), Wake(0.0))
+    step.publish(f"LISTENING {step.front.setting.address}")
     step.note("started", count=step.front.ledger.count)
     if board:
-        step.do(Publish(board))
+        step.publish(board)
 
 
 def advice(is_older_file: bool) -> str:

@@ -8,12 +8,20 @@ from collections.abc import Iterable
 from dataclasses import dataclass, replace
 from typing import TypeVar
 
-from hpb.front.rights import AUCTIONEER, Role
+from hpb.front.rights import AUCTIONEER, Role, sender_and_ticket
 from hpb.lines import NodeShown, Shown, WhoShown
 from hpb.record.news import ALL, News
 from hpb.rules.preview import Preview
 
-Fact = TypeVar("Fact", News, Preview, Shown, NodeShown, WhoShown, Shown | NodeShown | WhoShown)
+@dataclass(frozen=True)
+class Receipt:
+    """The receipt of a command with this line. It is empty until there is a seal behind it."""
+
+    command: bytes
+    text: str
+
+
+Fact = TypeVar("Fact", News, Preview, Receipt, Shown, NodeShown, WhoShown, Shown | NodeShown | WhoShown)
 PSEUDONYM = "other"
 
 
@@ -139,11 +147,16 @@ def closes_in(shown: Shown) -> int:
 
 def seen_by(viewer: Viewer, fact: Fact) -> Fact | None:
     """The fact as a viewer may know it, or None if it may not. News are for all, or for one name and the auctioneer. A look at what a close
-    would do is for the auctioneer, since it shows bids of the open round. A NotYet says that the fact is to wait."""
+    would do is for the auctioneer, since it shows bids of the open round. A receipt is for the command's own sender. A NotYet says that the fact is
+    to wait."""
     if isinstance(fact, Preview):
         return fact if viewer.role.kind == AUCTIONEER else None
     if isinstance(fact, News):
         return fact if fact.to in (ALL, viewer.name) or viewer.role.kind == AUCTIONEER else None
+    if isinstance(fact, Receipt):
+        sender, _ = sender_and_ticket(fact.command)
+        is_own = viewer.role.kind == AUCTIONEER if sender is None else sender in viewer.role.bidders
+        return fact if is_own else None
     if isinstance(fact, WhoShown):
         return fact if viewer.is_trusted or fact.bidder in viewer.role.bidders else None
     if isinstance(fact, NodeShown):

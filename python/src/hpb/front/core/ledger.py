@@ -1,6 +1,6 @@
 """Commands in the order of their numbers, each once: which may be written into the record, and when."""
-from collections.abc import Mapping
 from dataclasses import dataclass, field
+from typing import NamedTuple
 
 from hpb.front.core.effects import Write
 from hpb.front.core.values import changed
@@ -10,8 +10,7 @@ from hpb.record.entries import OK, Place, text_of
 WHERE_THE_AUDIT_ENDS = "the audit ends there"
 
 
-@dataclass(frozen=True)
-class Held:
+class Held(NamedTuple):
     """An accepted command that waits until those with smaller numbers are written."""
 
     # How many commands had been sent to the server when this one's answer came.
@@ -37,49 +36,55 @@ class Foreign:
     last: int
 
 
-@dataclass(frozen=True)
+@dataclass
 class Ledger:
-    """The counts of a record and of the commands on their way to it.
+    """The counts of a record and of the commands on their way to it. A step changes its own copy.
 
     `count` is how many commands the record has once all entries are written. `written` and `synced` count entries since this front's start:
     those handed out, and those on the disk. `place` is behind the last entry on the disk. `told` has the places of commands that were sent
-    to the server and have no answer yet. `used` has the last ticket of each sender among the first `count` commands. If `has_strangers`,
-    others have sent commands since the start, and `used` lacks those.
+    to the server and have no answer yet, in the order in which they were sent. `used` has the last ticket of each sender among the first
+    `count` commands. If `has_strangers`, others have sent commands since the start, and `used` lacks those.
     """
 
     count: int = 0
-    used: Mapping[str | None, int] = field(default_factory=dict)
+    used: dict[str | None, int] = field(default_factory=dict)
     has_strangers: bool = False
     written: int = 0
     synced: int = 0
     place: Place = Place()
     sent: int = 0
-    told: Mapping[int, int] = field(default_factory=dict)
-    held: Mapping[int, Held] = field(default_factory=dict)
-    free: tuple[int, ...] = ()
+    told: dict[int, int] = field(default_factory=dict)
+    held: dict[int, Held] = field(default_factory=dict)
+    free: list[int] = field(default_factory=list)
     places: int = 0
+
+    def copy(self) -> "Ledger":
+        """A ledger with the same counts, in mappings of its own."""
+        return changed(self, used=dict(self.used), told=dict(self.told), held=dict(self.held), free=list(self.free))
 
     def explained(self) -> tuple[int, int]:
         """The least and the greatest count of commands that the file can have, given those that were sent to the server."""
         return max([self.count, *self.held]), self.count + len(self.held) + len(self.told)
 
-    def took_place(self) -> tuple["Ledger", int]:
+    def take_place(self) -> int:
         """Takes a place beside the record for one more command."""
         if self.free:
-            return changed(self, free=self.free[:-1]), self.free[-1]
-        return changed(self, places=self.places + 1), self.places
+            return self.free.pop()
+        self.places += 1
+        return self.places - 1
 
-    def tell(self, place: int) -> "Ledger":
+    def give_place(self, place: int) -> None:
+        """The command in this place needn't be found any more."""
+        self.free.append(place)
+
+    def tell(self, place: int) -> None:
         """The command in this place is sent to the server."""
-        return changed(self, sent=self.sent + 1, told={**self.told, place: self.sent + 1})
+        self.sent += 1
+        self.told[place] = self.sent
 
-    def judged(self, place: int) -> "Ledger":
+    def judge(self, place: int) -> None:
         """The command in this place has its answer."""
-        return changed(self, told={other: sent for other, sent in self.told.items() if other != place})
-
-    def hold(self, number: int, held: Held) -> "Ledger":
-        """A command was accepted under this number."""
-        return changed(self, held={**self.held, number: held})
+        self.told.pop(place, None)
 
     def next(self) -> Held | Foreign | None:
         """The next entry to write: the accepted command with the next number, or numbers that nobody can get any more. None, if nothing is
@@ -93,12 +98,10 @@ class Ledger:
             return None
         return Foreign(self.count + 1, least - 1)
 
-    def accept(self) -> "Ledger":
-        """The command with the next number goes into the record."""
-        held = {number: held for number, held in self.held.items() if number != self.count + 1}
-        return changed(self, count=self.count + 1, held=held, written=self.written + 1)
-
-    def use(self, line: bytes) -> "Ledger":
-        """Counts the command's ticket as used by its sender."""
+    def accept(self, line: bytes) -> None:
+        """The command with the next number goes into the record, and its ticket is used by its sender."""
+        self.count += 1
+        self.written += 1
+        self.held.pop(self.count, None)
         sender, ticket = sender_and_ticket(line)
-        return changed(self, used={**self.used, sender: max(self.used.get(sender, 0), ticket)})
+        self.used[sender] = max(self.used.get(sender, 0), ticket)

@@ -9,6 +9,7 @@ from hpb.front.core.state import For, Session, Stage
 from hpb.front.core.stepping import Step
 from hpb.front.rights import sender_and_ticket
 from hpb.record.entries import text_of
+from hpb.rules.mock import MARK
 from hpb.rules.told import NotTold, look_whose, read_told
 from hpb.rules.tree import Tree
 
@@ -17,10 +18,15 @@ FIRST = 0
 Tickets = Mapping[str | None, int]
 
 
-def questions_of(tree: Tree) -> tuple[bytes, ...]:
-    """The questions whose answers are compared."""
+def questions_of_state(tree: Tree) -> tuple[bytes, ...]:
+    """The questions whose answers show the whole state of an auction."""
     questions = ["SHOW", *(f"NODE {name}" for name in tree.nodes), *(f"WHO {bidder}" for bidder in tree.bidders)]
     return tuple(question.encode() for question in questions)
+
+
+def questions_of(tree: Tree) -> tuple[bytes, ...]:
+    """The questions whose answers are compared at a start. The last one is answered by a mock's server alone."""
+    return tuple(dict.fromkeys([*questions_of_state(tree), f"WHO {MARK}".encode()]))
 
 
 def tickets_in(tree: Tree, answers: tuple[str, ...]) -> Tickets:

@@ -9,7 +9,7 @@ from hpb.front.core.state import Front
 from hpb.front.core.stepping import Step
 from hpb.front.times import exact_text_of_time
 from hpb.record.entries import Entry
-from hpb.record.news import MOST_NEWS, READ, SAID, News, news_of, shown
+from hpb.record.news import MOST_NEWS, READ, SAID, News, kept, news_of, shown
 
 NOTHING = b"EVENT -"
 
@@ -18,18 +18,17 @@ def add_news(step: Step, kind: str, fields: Entry) -> Entry:
     """Adds the news of an entry that is about to be written, and gives its fields with their number."""
     front, numbered = step.front, {**fields, "news": sum(step.front.told.values()) + 1}
     if news := news_of({"kind": kind, **numbered}):
-        kept = (*front.news, news._replace(entry=front.ledger.written + 1))[-MOST_NEWS:]
-        step.set(news=kept, told={**front.told, news.to: front.told.get(news.to, 0) + 1})
+        found = kept(front.news, news._replace(entry=front.ledger.written + 1))
+        step.set(news=tuple(found), told={**front.told, news.to: front.told.get(news.to, 0) + 1})
     return numbered
 
 
 def seen(front: Front, name: str) -> Iterator[tuple[int, News]]:
-    """The kept news that a name may know, each with the name's own number of it, the last one first."""
-    viewer, number = front.viewer(name), last_of(front, name)
-    for one in reversed(front.news):
-        if seen_by(viewer, one):
-            yield number, one
-            number -= 1
+    """The last news that a name may know, each with the name's own number of it, the last one first. All of so many are kept, whatever others
+    got."""
+    viewer, last = front.viewer(name), last_of(front, name)
+    known = (one for one in reversed(front.news) if seen_by(viewer, one))
+    yield from zip(range(last, last - MOST_NEWS, -1), known)
 
 
 def last_of(front: Front, name: str) -> int:

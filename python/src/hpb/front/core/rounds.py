@@ -72,6 +72,7 @@ def write(step: Step, what: str, is_news: bool = True, **more: Any) -> None:
     change(step, beat=time_of(front))
     fields = {"what": what, **front.rounds.fields(time_of(front)), **more}
     step.write(CLOCK, **(add_news(step, CLOCK, fields) if is_news else fields))
+    change(step, entry=step.front.ledger.written)
 
 
 # Time.
@@ -216,7 +217,7 @@ def took(step: Step, line: bytes) -> None:
     """A command goes into the record."""
     step.set(books=step.front.books.took(line))
     if is_close(line):
-        change(step, round=step.front.rounds.round + 1, agreed=0)
+        change(step, round=step.front.rounds.round + 1, agreed=0, entry=step.front.ledger.written)
 
 
 def hold(step: Step) -> None:

@@ -1,9 +1,8 @@
 """Keeps a server running: starts it again when it ends, checks its file against the record, and sends lines without an answer again."""
 import re
 
-from hpb.front.core import ending, finding, matching, sessions
+from hpb.front.core import finding, matching, sessions
 from hpb.front.core.effects import DropServer, StartServer, Wake
-from hpb.front.core.events import Answered, OfServer, ServerEnded, ServerFailed, ServerGone, ServerUp, SessionOpened
 from hpb.front.core.state import FIRST_PAUSE, For, Phase, Stage
 from hpb.front.core.stepping import Step
 
@@ -14,23 +13,6 @@ MOST_PAUSE = 2.0
 STEADY = 10
 GIVEN_UP, FAILED = b"ERR 95 order", b"ERR 93 failed"
 COUNT = re.compile(rb"ROUND .* COUNT ([0-9]+)")
-
-
-def take(step: Step, event: OfServer) -> None:
-    """Handles an event of the server."""
-    match event:
-        case SessionOpened(shown):
-            look_at_count(step, shown)
-        case ServerUp():
-            begin(step)
-        case ServerFailed(why, is_final):
-            try_again(step, why, is_final)
-        case ServerGone(how):
-            go_on_without(step, how)
-        case Answered(session, answer):
-            hear(step, session, answer)
-        case ServerEnded(words, status):
-            ending.look_at_end(step, words, status)
 
 
 def start(step: Step) -> None:
@@ -103,8 +85,9 @@ def look_at_count(step: Step, shown: bytes) -> None:
 
 def hear(step: Step, place: int, answer: bytes) -> None:
     """Takes the answer to a session's line. Answers 93 and 95 never reach a client."""
-    asks = bool(step.front.server.questions)
-    if not asks and (step.front.sessions[place].stage != Stage.TOLD or not step.front.server.is_up):
+    server = step.front.server
+    asks = bool(server.questions)
+    if not asks and (step.front.sessions[place].stage is not Stage.TOLD or not server.is_up):
         return
     if answer == FAILED:
         step.finish("the disk of the file failed: see docs/OPERATIONS.md, after a 91 or 93. Lines without an answer are looked "
@@ -116,8 +99,9 @@ def hear(step: Step, place: int, answer: bytes) -> None:
         if matching.hear(step, answer):
             tell_again(step)
     else:
-        step.set_server(starts=0)
-        if step.front.sessions[place].purpose == For.START:
+        if server.starts:
+            step.set_server(starts=0)
+        if step.front.sessions[place].purpose is For.START:
             finding.take_answer(step, answer)
         else:
             sessions.take_answer(step, place, answer)

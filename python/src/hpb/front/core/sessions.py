@@ -8,30 +8,35 @@ the clock waits for all commands that were taken in its round; later ones are re
 """
 from collections.abc import Callable, Iterable
 
-from hpb.front.core import clients, desk, news, rounds, veil
+from hpb.front.core import clients, desk, news, rounds, sealing, veil
 from hpb.front.core.clock import At
-from hpb.front.core.effects import AnswerBoard, FreeBeside, Publish, PutBeside, Tell, Wake
+from hpb.front.core.effects import AnswerBoard, FreeBeside, PutBeside, Tell, Wake
 from hpb.front.core.ledger import WHERE_THE_AUDIT_ENDS, Foreign, Held
-from hpb.front.core.state import For, Item, Phase, Session, Stage
+from hpb.front.core.state import FREE, For, Item, Phase, Session, Stage
 from hpb.front.core.stepping import Step
-from hpb.front.rights import for_server, is_close, is_command, is_own, refused
+from hpb.front.core.values import changed
+from hpb.front.rights import for_server, is_close, is_command, is_of_seals, is_own, refused
 from hpb.front.tokens import LEAST_TOKEN
 from hpb.record.entries import OK, text_of
 
 OVER = b" CLOSED "
+ACCEPTS = OK.encode()
+# Looked at for each line.
+STAGE_FREE, ANSWERED, CLOSING = Stage.FREE, Stage.ANSWERED, At.CLOSING
 # The phases in which clients' lines go to the server.
 SERVES = (Phase.OPEN, Phase.ANSWERING)
 
 
 def number_of(answer: bytes) -> int:
     """The number in an `OK`, or 0 for any other answer."""
-    return int(answer[len(OK):]) if answer.startswith(OK.encode()) else 0
+    return int(answer[len(OK):]) if answer.startswith(ACCEPTS) else 0
 
 
 def tell(step: Step, place: int, line: bytes, purpose: For) -> None:
     """Gives a session its line. The line is sent now, or once there is a server."""
-    step.set_session(place, stage=Stage.TOLD, purpose=purpose, line=line, is_sent=step.front.server.is_up)
-    if step.front.server.is_up:
+    session, is_up = step.session(place), step.front.server.is_up
+    session.stage, session.purpose, session.line, session.is_sent = Stage.TOLD, purpose, line, is_up
+    if is_up:
         step.do(Tell(place, line))
 
 
@@ -39,11 +44,11 @@ def tell_again(step: Step, place: int) -> None:
     """Sends a line without an answer to a server that has come up. If no server had the line, and its token was removed, drops it."""
     session = step.front.sessions[place]
     if session.is_sent or session.item is None or not is_dropped(step, session.item):
-        step.set_session(place, is_sent=True)
+        step.session(place).is_sent = True
         step.do(Tell(place, session.line))
         return
     if session.beside is not None:
-        step.set(ledger=step.front.ledger.judged(session.beside))
+        step.ledger().judge(session.beside)
         give_back(step, session.beside)
     clients.drop(step, session.item.connection)
     free(step, place)
@@ -51,31 +56,47 @@ def tell_again(step: Step, place: int) -> None:
 
 def free(step: Step, place: int) -> None:
     """The session is done with its line."""
-    step.put_session(place, Session(step.front.sessions[place].turns))
+    step.put_session(place, changed(FREE, turns=step.front.sessions[place].turns))
 
 
 def go_on(step: Step, places: Iterable[int]) -> None:
     """Sends the answers of these sessions that may leave, and begins their next lines. Names that share a session take turns, line by
     line."""
     for place in places:
-        if step.front.sessions[place].stage is Stage.ANSWERED:
+        if step.front.sessions[place].stage is ANSWERED:
             leave(step, place)
         close_by_clock(step, place)
+        ask_for_seal(step, place)
         while name := next_name(step, place):
-            others = tuple(other for other in step.front.sessions[place].turns if other != name)
-            item, *items = step.front.names[name].items
-            step.set_name(name, items=tuple(items))
-            step.set_session(place, turns=(*others, name) if items else others)
-            begin(step, place, name, item)
+            begin_next(step, place, name)
+
+
+def go_on_quietly(step: Step, places: Iterable[int]) -> None:
+    """The same, if no line has to wait for those of other sessions."""
+    for place in places:
+        if step.front.sessions[place].stage is ANSWERED:
+            leave(step, place)
+        while (session := step.front.sessions[place]).turns and session.stage is STAGE_FREE and step.front.phase in SERVES:
+            begin_next(step, place, session.turns[0])
 
 
 def next_name(step: Step, place: int) -> str:
     """The name whose line is next in a session, or none if all have to wait."""
     session, front = step.front.sessions[place], step.front
-    if session.stage is not Stage.FREE or front.phase not in SERVES:
+    if not session.turns or session.stage is not STAGE_FREE or front.phase not in SERVES:
         return ""
     gate = gate_of(step)
     return next((name for name in session.turns if may_begin(step, front.names[name].items[0], gate)), "")
+
+
+def begin_next(step: Step, place: int, name: str) -> None:
+    """Begins a name's next line. Then others have their turns."""
+    known, session = step.name(name), step.session(place)
+    item, *items = known.items
+    known.items = tuple(items)
+    others = tuple(other for other in session.turns if other != name) if len(session.turns) > 1 else ()
+    session.turns = (*others, name) if items else others
+    begin(step, place, name, item)
 
 
 def begin(step: Step, place: int, name: str, item: Item) -> None:
@@ -89,10 +110,11 @@ def begin(step: Step, place: int, name: str, item: Item) -> None:
         clients.answer(step, item.connection, answer)
     elif is_of_round:
         put_beside(step, place, name, for_server(item.line), item)
+    elif is_of_seals(item.line):
+        sealing.look_up(step, place, name, item)
     elif is_own(item.line):
-        answer = desk.answer(step, name, item.line)
+        answer, entry = desk.answer(step, name, item.line)
         note(step, name, item.line, answer)
-        entry = step.front.ledger.written
         step.set_session(place, stage=Stage.ANSWERED, purpose=For.LINE, line=item.line, name=name, item=item, answer=answer, entry=entry)
         leave(step, place)
     else:
@@ -102,9 +124,9 @@ def begin(step: Step, place: int, name: str, item: Item) -> None:
 
 def put_beside(step: Step, place: int, name: str, line: bytes, item: Item | None) -> None:
     """Puts a command beside the record. It goes to the server once it stands there."""
-    ledger, beside = step.front.ledger.took_place()
-    step.set(ledger=ledger)
-    step.set_session(place, stage=Stage.BESIDE, purpose=For.LINE, line=line, name=name, item=item, beside=beside)
+    session, beside = step.session(place), step.ledger().take_place()
+    session.stage, session.purpose, session.line, session.name = Stage.BESIDE, For.LINE, line, name
+    session.item, session.beside = item, beside
     step.do(PutBeside(beside, name, line))
 
 
@@ -120,12 +142,15 @@ def desk_of(step: Step) -> tuple[int, Session]:
 def gate_of(step: Step) -> int | None:
     """Commands that were taken behind this line have to wait: it is the auctioneer's CLOSE, or 0 if a CLOSE is on its way. None if there is no
     CLOSE."""
-    name = step.front.names[step.front.setting.desk]
-    session = step.front.sessions[name.session]
-    if is_close(session.line) and is_judged(session):
+    front = step.front
+    name = front.names[front.setting.desk]
+    session = front.sessions[name.session]
+    if session.line and is_close(session.line) and is_judged(session):
         return 0
-    first = name.items[0] if name.items else None
-    return first.number if first and first.refusal is None and is_close(first.line) else None
+    if not name.items:
+        return None
+    first = name.items[0]
+    return first.number if first.refusal is None and is_close(first.line) else None
 
 
 def is_judged(session: Session) -> bool:
@@ -133,14 +158,29 @@ def is_judged(session: Session) -> bool:
     return session.stage in (Stage.BESIDE, Stage.TOLD) and session.beside is not None
 
 
+def is_quiet(step: Step) -> bool:
+    """Whether no line waits for those of other sessions, nor will as long as the auctioneer sends none. Then none of its lines waits, no CLOSE is
+    on its way, and none has to be sealed."""
+    front = step.front
+    name = front.names[front.setting.desk]
+    session = front.sessions[name.session]
+    is_closing = session.line and is_close(session.line) and is_judged(session)
+    return not (name.items or front.is_held or front.rounds.at is CLOSING or is_closing or sealing.is_due(front))
+
+
 def holds(step: Step) -> bool:
     """Whether lines of several sessions wait for one another."""
-    return gate_of(step) is not None or step.front.rounds.at is At.CLOSING
+    return step.front.rounds.at is CLOSING or gate_of(step) is not None or sealing.is_due(step.front)
 
 
 def may_begin(step: Step, item: Item, gate: int | None) -> bool:
-    """Whether a line may begin. A CLOSE waits for all commands before it, and those behind it wait for it."""
-    if gate is None or item.refusal is not None or not is_command(item.line):
+    """Whether a line may begin. A CLOSE waits for all commands before it, and those behind it wait for it. Commands wait for the seal of the last
+    close, and so do lines about seals."""
+    if item.refusal is not None or not (is_command(item.line) or is_of_seals(item.line)):
+        return True
+    if sealing.is_due(step.front):
+        return False
+    if gate is None or is_of_seals(item.line):
         return True
     return not is_waited_for(step, lambda other: other.number < item.number) if is_close(item.line) else item.number < gate
 
@@ -159,12 +199,22 @@ def close_by_clock(step: Step, place: int) -> None:
     front, (mine, session) = step.front, desk_of(step)
     if front.rounds.at is not At.CLOSING or place != mine or session.stage is not Stage.FREE or front.phase not in SERVES:
         return
+    if sealing.is_due(front):
+        return
     if is_waited_for(step, lambda item: item.round == front.rounds.round):
         return
-    if front.books.would_end() and not front.rounds.ends:
+    # The round may have been opened before a second name was wanted.
+    if front.books.would_end() and (not front.rounds.ends or front.setting.closing.needs_second):
         rounds.hold(step)
         return
     put_beside(step, place, front.setting.desk, b"CLOSE %d" % (front.ledger.used.get(None, 0) + 1), None)
+
+
+def ask_for_seal(step: Step, place: int) -> None:
+    """If the last close has no seal yet, asks the next question for it."""
+    mine, session = desk_of(step)
+    if place == mine and session.stage is Stage.FREE and step.front.phase in SERVES and (question := sealing.question(step)):
+        tell(step, place, question, For.SEAL)
 
 
 def is_dropped(step: Step, item: Item) -> bool:
@@ -175,50 +225,54 @@ def is_dropped(step: Step, item: Item) -> bool:
 
 def take_beside(step: Step, places: tuple[int, ...]) -> None:
     """These commands are on the disk, so the next start would find them after a crash: they may go to the server."""
+    stand = frozenset(places)
     for place, session in enumerate(step.front.sessions if step.front.phase in SERVES else ()):
-        if session.stage == Stage.BESIDE and session.beside in places and session.beside is not None:
+        if session.stage is Stage.BESIDE and session.beside in stand and session.beside is not None:
             if session.item and is_dropped(step, session.item):
                 give_back(step, session.beside)
                 clients.drop(step, session.item.connection)
                 free(step, place)
             else:
-                step.set(ledger=step.front.ledger.tell(session.beside))
+                step.ledger().tell(session.beside)
                 tell(step, place, session.line, For.LINE)
 
 
 def take_answer(step: Step, place: int, answer: bytes) -> None:
     """Takes the server's answer to a question of the page, to the SHOW after a close, or to a line of a name."""
     session = step.front.sessions[place]
-    if session.purpose == For.BOARD:
+    if session.purpose is For.BOARD:
         (number, _), *others = step.front.questions
         step.set(questions=tuple(others))
         veil.hear(step, answer)
         step.do(AnswerBoard(number, answer))
         free(step, place)
         ask_for_board(step)
-    elif session.purpose == For.CLOSE:
+    elif session.purpose is For.CLOSE:
         free(step, place)
         tell_close(step, answer)
+    elif session.purpose is For.SEAL:
+        free(step, place)
+        sealing.hear(step, answer)
     elif step.front.phase in SERVES:
         judge(step, place, answer)
 
 
 def judge(step: Step, place: int, answer: bytes) -> None:
     """Takes the answer to a line of a name. A command that is newly accepted goes into the record, all else into the log."""
-    session = step.front.sessions[place]
+    session, ledger = step.session(place), step.ledger()
     number = number_of(answer) if session.beside is not None else 0
     if session.beside is not None:
-        step.set(ledger=step.front.ledger.judged(session.beside))
-    ledger = step.front.ledger
+        ledger.judge(session.beside)
+    session.stage, session.answer = Stage.ANSWERED, answer
     if number > ledger.count:
-        step.set_session(place, stage=Stage.ANSWERED, answer=answer, entry=None)
-        step.set(ledger=ledger.hold(number, Held(ledger.sent, session.name, session.line, place)))
+        session.entry = None
+        ledger.held[number] = Held(ledger.sent, session.name, session.line, place)
     else:
         note(step, session.name, session.line, answer)
         if session.beside is not None:
             give_back(step, session.beside)
         # A repeat: its entry may not be on the disk yet.
-        step.set_session(place, stage=Stage.ANSWERED, answer=answer, entry=ledger.written if number else 0, beside=None)
+        session.entry, session.beside = ledger.written if number else 0, None
     release(step)
 
 
@@ -228,12 +282,14 @@ def release(step: Step) -> None:
         if isinstance(found, Foreign):
             note_foreign(step, found)
             continue
-        step.set(ledger=step.front.ledger.accept().use(found.line))
-        step.do(found.entry(step.front.ledger.count))
+        ledger = step.ledger()
+        ledger.accept(found.line)
+        step.do(found.entry(ledger.count))
         rounds.took(step, found.line)
         veil.took(step, found.line)
+        sealing.took(step, found.line)
         if found.session is not None:
-            step.set_session(found.session, entry=step.front.ledger.written)
+            step.session(found.session).entry = ledger.written
 
 
 def note_foreign(step: Step, foreign: Foreign) -> None:
@@ -247,14 +303,14 @@ def note_foreign(step: Step, foreign: Foreign) -> None:
 
 def leave(step: Step, place: int) -> None:
     """Sends a session's answer, if its entry and all entries before that are on the disk."""
-    session, ledger = step.front.sessions[place], step.front.ledger
-    if session.entry is None or session.entry > ledger.synced:
+    session = step.front.sessions[place]
+    if session.entry is None or session.entry > step.front.ledger.synced:
         return
     answer = veil.answer_to(step, session) if session.item else b""
     if answer is None:
         return
     if session.beside is not None:
-        step.set_ledger(free=(*ledger.free, session.beside))
+        step.ledger().give_place(session.beside)
     if session.item:
         clients.answer(step, session.item.connection, answer)
     free(step, place)
@@ -267,7 +323,7 @@ def leave(step: Step, place: int) -> None:
 def give_back(step: Step, beside: int) -> None:
     """Empties a place beside the record, since its command needn't be found any more."""
     step.do(FreeBeside(beside))
-    step.set_ledger(free=(*step.front.ledger.free, beside))
+    step.ledger().give_place(beside)
 
 
 def note(step: Step, name: str, line: bytes, answer: bytes) -> None:
@@ -280,7 +336,7 @@ def note(step: Step, name: str, line: bytes, answer: bytes) -> None:
 def tell_close(step: Step, shown: bytes) -> None:
     """Publishes the result of a close, with the record's last entry on the disk."""
     number, digest = step.front.ledger.place
-    step.do(Publish(f"{text_of(shown)} RECORD {number} {digest}"))
+    step.publish(f"{text_of(shown)} RECORD {number} {digest}")
     look_whether_over(step, shown)
     rounds.take_shown(step, shown)
 
@@ -317,4 +373,6 @@ def own_answer(step: Step, line: bytes) -> bytes:
             return b"READ %d" % step.front.read.get(name, 0)
         case ["INFORMATION"] if step.front.setting.information:
             return veil.facts_line(step.front)
+        case ["SEAL"] if step.front.setting.has_seals:
+            return sealing.line_of_last(step.front)
     return refused("line") if is_own(line) else b""

@@ -1,11 +1,12 @@
-"""The state of a front, made of values that are never changed."""
+"""The state of a front, made of values. Of these a step changes its own copies of connections, names, sessions and the ledger, and nobody
+changes any once the step is over."""
 import enum
-from collections.abc import Mapping
+from collections.abc import Mapping, Sequence
 from dataclasses import dataclass, field
 
 from hpb.front.core.books import Books
 from hpb.front.core.clock import Closing, Plan, Rounds
-from hpb.front.core.events import Left
+from hpb.front.core.events import Left, SealOnDisk
 from hpb.front.core.information import Information, Veil, Viewer, prefix_for, viewer_of
 from hpb.front.core.ledger import Ledger
 from hpb.front.core.values import changed
@@ -14,6 +15,7 @@ from hpb.front.rights import AUCTIONEER, Role
 from hpb.front.tokens import Token, Tokens
 from hpb.record.entries import Entry
 from hpb.record.news import News
+from hpb.rules.mock import is_mock
 from hpb.rules.tree import Tree
 
 # The first pause before a server that didn't come up is started again, in seconds. Each further pause is twice as long, up to a limit.
@@ -43,7 +45,7 @@ class Phase(enum.IntEnum):
 class Setting:
     """The parts of a front that stay the same while it runs. `sessions` counts those of names; a board has one more. `record` is the name
     of the record's file. `starts_server` says whether the front starts the server itself. `plan` is that of the rounds, if they keep
-    time. `information` has the rules on what names may know, if there are any."""
+    time. `information` has the rules on what names may know, if there are any. `has_seals` says whether closes are sealed."""
 
     tree: Tree
     roles: Mapping[str, Role]
@@ -56,14 +58,17 @@ class Setting:
     plan: Plan | None = None
     closing: Closing = Closing()
     information: Information | None = None
+    has_seals: bool = False
 
-    # The auctioneer's name, and how pseudonyms begin.
+    # The auctioneer's name, how pseudonyms begin, and whether the definition is that of a mock.
     desk: str = field(init=False)
     prefix: str = field(init=False)
+    is_mock: bool = field(init=False)
 
     def __post_init__(self) -> None:
         object.__setattr__(self, "desk", next(name for name, role in self.roles.items() if role.kind == AUCTIONEER))
         object.__setattr__(self, "prefix", prefix_for(self.tree.bidders))
+        object.__setattr__(self, "is_mock", is_mock(self.tree.definition))
 
 
 class Going(enum.Enum):
@@ -74,9 +79,9 @@ class Going(enum.Enum):
     CLOSED = enum.auto()
 
 
-@dataclass(frozen=True)
+@dataclass
 class Item:
-    """A waiting line, with its connection and token. If the front refuses the line, `refusal` is the word that says why. `number` counts
+    """A waiting line, with its connection and token, which isn't changed any more once it waits. If the front refuses the line, `refusal` is the word that says why. `number` counts
     lines in the order in which they were taken, and `round` is the round that was open then, or 0 if none was."""
 
     connection: int
@@ -87,7 +92,15 @@ class Item:
     round: int = 0
 
 
-@dataclass(frozen=True)
+NO_ITEM = Item(0, Token("", b""), b"")
+
+
+def item_of(connection: int, token: Token, line: bytes, refusal: str | None = None) -> Item:
+    """A line that came. A copy with other fields costs much less than a new value."""
+    return changed(NO_ITEM, connection=connection, token=token, line=line, refusal=refusal)
+
+
+@dataclass
 class Connection:
     """A connection. Until its first line has come, it has no token, and counts as unknown."""
 
@@ -110,7 +123,7 @@ class Connection:
     why: str = ""
 
 
-@dataclass(frozen=True)
+@dataclass
 class Name:
     """A name of the configuration: its role, its session, its connections and its waiting lines. `credit` is how many lines it might send
     at once at the time `seen`."""
@@ -124,25 +137,27 @@ class Name:
 
 
 class For(enum.Enum):
-    """The purpose of a session's line: a client's line, the result of a close, the front's start, or a question of the page."""
+    """The purpose of a session's line: a client's line, the result of a close, its seal, the front's start, or a question of the page."""
 
     LINE = enum.auto()
     CLOSE = enum.auto()
+    SEAL = enum.auto()
     START = enum.auto()
     BOARD = enum.auto()
 
 
 class Stage(enum.Enum):
     """How far a session's line has come. A command waits beside the record, then for the server, then for its entry; other lines skip the
-    first."""
+    first. A line about seals is looked up instead."""
 
     FREE = enum.auto()
+    LOOKED_UP = enum.auto()
     BESIDE = enum.auto()
     TOLD = enum.auto()
     ANSWERED = enum.auto()
 
 
-@dataclass(frozen=True)
+@dataclass
 class Session:
     """A session with the server, which works on one line at a time. `turns` are the names with waiting lines, in the order of their
     turns. A CLOSE by the clock has no `item`."""
@@ -160,6 +175,10 @@ class Session:
     beside: int | None = None
     answer: bytes = b""
     entry: int | None = None
+
+
+# A session without a line.
+FREE = Session()
 
 
 @dataclass(frozen=True)
@@ -192,6 +211,19 @@ class Finding:
 
 
 @dataclass(frozen=True)
+class Sealing:
+    """The seals of a record. `closed` is the number of the last CLOSE, and `sealed` that of the last one whose seal is on the disk. `last` is the
+    last seal there. `answers` are those about the state after the last close so far. `entry` is that of the seal on its way to the disk, counted
+    since the front's start."""
+
+    closed: int = 0
+    sealed: int = 0
+    last: SealOnDisk | None = None
+    answers: tuple[str, ...] = ()
+    entry: int | None = None
+
+
+@dataclass(frozen=True)
 class Front:
     """The whole state of a front. `time` is the seconds that have passed, and never goes back. `clock` is the last reading of the clock,
     which may."""
@@ -201,12 +233,12 @@ class Front:
     tokens: Tokens
     clock: float
     names: Mapping[str, Name]
-    sessions: tuple[Session, ...]
+    sessions: Sequence[Session]
     time: float = 0.0
     phase: Phase = Phase.RECORD
     connections: Mapping[int, Connection] = field(default_factory=dict)
     unknown: tuple[int, ...] = ()
-    ledger: Ledger = Ledger()
+    ledger: Ledger = field(default_factory=Ledger)
     server: Server = Server()
     finding: Finding = Finding()
     questions: tuple[tuple[int, bytes], ...] = ()
@@ -225,6 +257,7 @@ class Front:
     told: Mapping[str, int] = field(default_factory=dict)
     read: Mapping[str, int] = field(default_factory=dict)
     veil: Veil = Veil()
+    sealing: Sealing = Sealing()
 
     @property
     def waiting(self) -> int:
@@ -246,5 +279,5 @@ def new_front(setting: Setting, limits: Limits, tokens: Tokens, clock: float) ->
     """A front that knows nothing yet of its record and its server."""
     credit = float(BURST_SECONDS * limits.lines_per_second)
     names = {name: Name(role, place % setting.sessions, credit, 0.0) for place, (name, role) in enumerate(setting.roles.items())}
-    sessions = (Session(),) * (setting.sessions + setting.has_board)
+    sessions = (FREE,) * (setting.sessions + setting.has_board)
     return Front(setting, limits, tokens, clock, names, sessions)

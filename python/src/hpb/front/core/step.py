@@ -1,81 +1,72 @@
 """The step from one state of a front to the next."""
-from hpb.front.core import clients, ending, finding, rounds, serving, sessions
+from collections.abc import Callable, Iterable
+from typing import Any
+
+from hpb.front.core import clients, ending, finding, rounds, sealing, serving, sessions
 from hpb.front.core.effects import Effect
 from hpb.front.core.events import (
-    Answered, BesideEmptied, BoardAsks, BoardUp, Came, ClockRead, Event, Failed, Gone, Line, LinesEnded, OfRecord, Opened, RecordOpened,
-    Reloaded, ServerEnded, ServerFailed, ServerGone, ServerUp, SessionOpened, StandsBeside, Stop, Stuffed, Synced, Tick, TooLong,
+    Answered, BesideEmptied, BoardAsks, BoardUp, Came, ClockRead, Event, Failed, Gone, Line, LinesEnded, LookedUp, Opened, RecordOpened,
+    Reloaded, ServerEnded, ServerFailed, ServerGone, ServerUp, SessionOpened, Stamped, StandsBeside, Stop, Stuffed, Synced, Tick, TooLong,
     Unpublished, Waited,
 )
-from hpb.front.core.state import Front, Phase
+from hpb.front.core.state import Front, Phase, Stage
 from hpb.front.core.stepping import Step
+
+# Looked at after each event.
+OPEN, ENDED, ANSWERED = Phase.OPEN, Phase.ENDED, Stage.ANSWERED
 
 
 def step(front: Front, event: Event, clock: float) -> tuple[Front, list[Effect]]:
     """Takes an event when the clock shows `clock` seconds. Gives the front after the event, and the effects in the order in which to carry
     them out. If the clock goes back, the front's time stands still."""
-    if front.phase == Phase.ENDED:
+    return steps(front, (event,), clock)
+
+
+def steps(front: Front, events: Iterable[Event], clock: float) -> tuple[Front, list[Effect]]:
+    """Takes events that came together. Front and effects are those of one step after the other, and cost less."""
+    if front.phase is ENDED:
         return front, []
     taken = Step(front)
     taken.set(time=front.time + max(0.0, clock - front.clock), clock=clock)
-    take(taken, event)
-    # An entry that reaches the disk may let any session's answer leave, and a CLOSE holds all. After other events, only changed sessions can
-    # go on.
-    is_held = sessions.holds(taken)
-    is_for_all = is_held or front.is_held or isinstance(event, Synced)
-    sessions.go_on(taken, range(len(front.sessions)) if is_for_all else sorted(taken.touched))
-    if is_held and not sessions.holds(taken):
+    for event in events:
+        taken.touched = set()
+        TAKE[type(event)](taken, event)
+        go_on(taken, event)
+        if taken.front.phase is ENDED:
+            break
+    return taken.done()
+
+
+def go_on(step: Step, event: Event) -> None:
+    """Looks what may go on after an event."""
+    if sessions.is_quiet(step):
+        # An entry that reaches the disk may let any answer leave that waits. After other events, only changed sessions can go on.
+        if type(event) is Synced:
+            step.touched.update(place for place, session in enumerate(step.front.sessions) if session.stage is ANSWERED)
+        if step.touched:
+            sessions.go_on_quietly(step, sorted(step.touched))
+    else:
+        go_on_held(step, event)
+    if step.front.phase < OPEN:
+        finding.go_on(step)
+    elif step.front.phase > OPEN:
+        ending.go_on(step)
+
+
+def go_on_held(step: Step, event: Event) -> None:
+    """The same, while a CLOSE may hold lines of all sessions."""
+    was_held, is_held = step.front.is_held, sessions.holds(step)
+    is_for_all = is_held or was_held or type(event) is Synced
+    sessions.go_on(step, range(len(step.front.sessions)) if is_for_all else sorted(step.touched))
+    if is_held and not sessions.holds(step):
         # A CLOSE was refused, so those behind it don't wait any more.
         is_held = False
-        sessions.go_on(taken, range(len(front.sessions)))
-    if is_held is not front.is_held:
-        taken.set(is_held=is_held)
-    finding.go_on(taken)
-    ending.go_on(taken)
-    return taken.front, taken.effects
+        sessions.go_on(step, range(len(step.front.sessions)))
+    if is_held is not was_held:
+        step.set(is_held=is_held)
 
 
-def take(step: Step, event: Event) -> None:
-    """Takes the event itself; `step` then looks what may go on after it."""
-    match event:
-        case Came() | Opened() | Line() | TooLong() | LinesEnded() | Stuffed() | Waited() | Gone():
-            clients.take(step, event)
-        case SessionOpened() | ServerUp() | ServerFailed() | ServerGone() | Answered() | ServerEnded():
-            serving.take(step, event)
-        case RecordOpened() | Synced() | StandsBeside() | BesideEmptied():
-            take_record(step, event)
-        case Reloaded():
-            clients.reload(step, event)
-        case BoardUp(line):
-            finding.admit(step, line)
-        case BoardAsks(number, line):
-            sessions.ask_for_board(step, (number, line))
-        case Unpublished(line):
-            ending.take_unpublished(step, line)
-        case Tick():
-            tick(step)
-        case ClockRead():
-            rounds.take_reading(step, event)
-        case Stop():
-            ending.stop(step)
-        case Failed(why):
-            step.finish(why)
-
-
-def take_record(step: Step, event: OfRecord) -> None:
-    """Handles an event of the record."""
-    match event:
-        case RecordOpened():
-            finding.begin(step, event)
-            serving.start(step)
-        case Synced(entries, place):
-            step.set_ledger(synced=step.front.ledger.synced + entries, place=place)
-        case StandsBeside(places):
-            sessions.take_beside(step, places)
-        case BesideEmptied():
-            finding.take_emptied(step)
-
-
-def tick(step: Step) -> None:
+def take_tick(step: Step) -> None:
     """Time has passed: ends silent connections, starts a server again that didn't come up, and ends the front some time after the
     auction."""
     clients.sweep(step)
@@ -83,3 +74,50 @@ def tick(step: Step) -> None:
     since = step.front.over_since
     if since is not None and step.front.time >= since + step.front.limits.after_end_seconds:
         ending.stop(step)
+
+
+def take_opened(step: Step, event: RecordOpened) -> None:
+    """The record is open: the server is started, to be asked what it has."""
+    finding.begin(step, event)
+    serving.start(step)
+
+
+def take_synced(step: Step, event: Synced) -> None:
+    """Entries are on the disk."""
+    ledger = step.ledger()
+    ledger.synced, ledger.place = ledger.synced + event.entries, event.place
+    for seal in event.seals:
+        sealing.take_sealed(step, seal)
+
+
+# For each kind of event, the call that takes it itself; `go_on` then looks what may go on after it.
+TAKE: dict[type[Event], Callable[[Step, Any], None]] = {
+    Came: lambda step, event: clients.take(step, event),
+    Opened: lambda step, event: clients.take(step, event),
+    Line: lambda step, event: clients.take_line(step, event.connection, event.line),
+    TooLong: lambda step, event: clients.take(step, event),
+    LinesEnded: lambda step, event: clients.take(step, event),
+    Stuffed: lambda step, event: clients.take(step, event),
+    Waited: lambda step, event: clients.take(step, event),
+    Gone: lambda step, event: clients.take(step, event),
+    SessionOpened: lambda step, event: serving.look_at_count(step, event.shown),
+    ServerUp: lambda step, event: serving.begin(step),
+    ServerFailed: lambda step, event: serving.try_again(step, event.why, event.is_final),
+    ServerGone: lambda step, event: serving.go_on_without(step, event.how),
+    Answered: lambda step, event: serving.hear(step, event.session, event.answer),
+    ServerEnded: lambda step, event: ending.look_at_end(step, event.words, event.status),
+    RecordOpened: take_opened,
+    Synced: take_synced,
+    StandsBeside: lambda step, event: sessions.take_beside(step, event.places),
+    BesideEmptied: lambda step, event: finding.take_emptied(step),
+    LookedUp: lambda step, event: sealing.take_found(step, event),
+    Stamped: lambda step, event: sealing.take_stamp(step, event),
+    Reloaded: lambda step, event: clients.reload(step, event),
+    BoardUp: lambda step, event: finding.admit(step, event.line),
+    BoardAsks: lambda step, event: sessions.ask_for_board(step, (event.number, event.line)),
+    Unpublished: lambda step, event: ending.take_unpublished(step, event.line),
+    Tick: lambda step, event: take_tick(step),
+    ClockRead: lambda step, event: rounds.take_reading(step, event),
+    Stop: lambda step, event: ending.stop(step),
+    Failed: lambda step, event: step.finish(event.why),
+}

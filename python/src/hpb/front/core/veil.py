@@ -59,8 +59,10 @@ def took(step: Step, line: bytes) -> None:
 
 def answer_to(step: Step, session: Session) -> bytes | None:
     """The answer to a session's line as its name may know it. None says that it has to wait for a close that is on its way into the record."""
+    if step.front.setting.information is None or not session.answer.startswith(STANDINGS):
+        return session.answer
     viewer = step.front.viewer(session.name)
-    if viewer.is_trusted or step.front.setting.information is None or not session.answer.startswith(STANDINGS):
+    if viewer.is_trusted:
         return session.answer
     if (fact := fact_in(session.answer)) is None:
         return refused(NOT_KNOWN)

@@ -1,0 +1,1 @@
+"""Many auctions: a folder with a folder for each, and the commands for them (packaging/README.md)."""

@@ -1,0 +1,205 @@
+"""Makes an auction: its file, its certificate, its tokens and its configuration, all or nothing."""
+import csv
+import importlib.util
+import json
+import os
+import pathlib
+import re
+import shutil
+import subprocess
+from dataclasses import dataclass
+from typing import Any
+
+from hpb.auctions.folder import CONFIGURATION, Auction, Auctions, CantDo
+from hpb.file import read_head, read_image
+from hpb.front.config import METRICS_LIBRARY, Config, read_address
+from hpb.front.faults import Wrong
+from hpb.refusals import Refused
+from hpb.rules.tree import tree_of
+
+# The ports of the first auction: of front, page and metrics. Each further auction has the next that are free.
+PORTS = {"listen": 6000, "board": 8443, "metrics": 9464}
+MOST_AUCTIONS = 1_000
+LOCAL = "127.0.0.1"
+DAYS = 90
+# The auctioneer's name: the first one that no bidder has.
+DESKS = ("desk", "auctioneer", "house")
+# Marks between cells, as spreadsheets write them. The one in most rows counts.
+DELIMITERS = ",;\t"
+# A row of a node has its name, its parent, its units and its opening bid.
+NODE_CELLS = 4
+HOST_NAME = re.compile(r"[A-Za-z0-9-]{1,63}(\.[A-Za-z0-9-]{1,63})*")
+
+
+@dataclass(frozen=True)
+class Wanted:
+    """What an auction is to be. `listen` is the address of its front, or empty: then it is one of this machine alone."""
+
+    definition: pathlib.Path
+    listen: str = ""
+    host: str = "localhost"
+    journal: int = 1_024
+    program: str = "hpb"
+
+
+def become_owner(auctions: Auctions) -> None:
+    """Root makes an auction as the user whose folder it is: it is that user's own from the first byte on."""
+    status = os.stat(auctions.folder)
+    if os.geteuid() == 0 and status.st_uid:
+        os.setgroups([])
+        os.setgid(status.st_gid)
+        os.setuid(status.st_uid)
+
+
+def make(auctions: Auctions, name: str, wanted: Wanted) -> Auction:
+    """Makes an auction. If it is killed, there is none of this name, and the next try begins anew."""
+    text = definition_text(wanted.definition)
+    if not HOST_NAME.fullmatch(wanted.host):
+        raise CantDo(f"--host: {wanted.host!r} is no name of a host")
+    made = auctions.place(name)
+    os.umask(0o077)
+    with auctions.changing():
+        if os.path.lexists(made.folder):
+            raise CantDo(f"{made.folder} is there already")
+        room = auctions.folder / f".{name}.new"
+        shutil.rmtree(room, ignore_errors=True)
+        try:
+            room.mkdir(mode=0o700)
+            fill(room, text, ports_for(auctions), wanted)
+            os.rename(room, made.folder)
+            sync(auctions.folder)
+        except BaseException as fault:
+            shutil.rmtree(room, ignore_errors=True)
+            if isinstance(fault, OSError):
+                raise CantDo(f"{fault.filename or room}: {fault.strerror}") from None
+            raise
+    return made
+
+
+def fill(room: pathlib.Path, text: str, ports: dict[str, int], wanted: Wanted) -> None:
+    """Makes all files of an auction in a folder."""
+    ran = run([wanted.program, "format", "--file", str(room / "auction.hpb"), "--journal", str(wanted.journal)], text)
+    if ran.returncode:
+        raise CantDo(f"the definition or the journal is refused: {(ran.stderr or ran.stdout).strip()}")
+    alternative = f"subjectAltName=DNS:{wanted.host}" + ("" if wanted.host == "localhost" else ",DNS:localhost") + f",IP:{LOCAL}"
+    words = ["openssl", "req", "-x509", "-newkey", "ec", "-pkeyopt", "ec_paramgen_curve:prime256v1", "-nodes", "-days", str(DAYS), "-subj", f"/CN={wanted.host}"]
+    ran = run([*words, "-addext", alternative, "-keyout", str(room / "front.key"), "-out", str(room / "front.pem")])
+    if ran.returncode:
+        raise CantDo(f"openssl makes no certificate: {ran.stderr.strip()}")
+    write(room / CONFIGURATION, configuration(room / "auction.hpb", ports, wanted))
+    try:
+        Config(room / CONFIGURATION).token_file().make()
+    except Wrong as fault:
+        raise CantDo(str(fault)) from None
+    sync(room)
+
+
+def run(words: list[str], text: str = "") -> "subprocess.CompletedProcess[str]":
+    try:
+        return subprocess.run(words, input=text, capture_output=True, encoding="utf-8", errors="backslashreplace", check=False)
+    except OSError as fault:
+        raise CantDo(f"{words[0]} can't be started: {fault.strerror}") from None
+
+
+def configuration(file: pathlib.Path, ports: dict[str, int], wanted: Wanted) -> str:
+    """The text of `front.toml`: each bidder of the definition is a name of its own."""
+    try:
+        bidders = list(tree_of(read_head(read_image(str(file), is_quiet=False)).definition).bidders)
+    except Refused as fault:
+        raise CantDo(f"{file}: {fault.brief}") from None
+    host, port = (LOCAL, ports["listen"]) if not wanted.listen else address(wanted.listen)
+    shown = f"[{host}]" if ":" in host else host
+    desk = next(name for name in DESKS if name not in bidders)
+    lines = [
+        'file = "auction.hpb"', 'record = "auction.record"', 'tokens = "auction.tokens"', f'listen = "{shown}:{port}"',
+        'certificate = "front.pem"', 'key = "front.key"', *([] if wanted.program == "hpb" else [f"program = {json.dumps(wanted.program)}"]),
+        "", "[names]", f'{desk} = "auctioneer"', *(f'{bidder} = ["{bidder}"]' for bidder in bidders),
+        "", "[limits]", "after_end_seconds = 3600",
+        "", "[board]", f'listen = "{shown}:{ports["board"]}"', f'names = ["{wanted.host}"]',
+    ]
+    if importlib.util.find_spec(METRICS_LIBRARY):
+        lines += ["", "[metrics]", f'listen = "{LOCAL}:{ports["metrics"]}"']
+    return "\n".join(lines) + "\n"
+
+
+def address(text: str) -> tuple[str, int]:
+    try:
+        return read_address(text, "--listen")
+    except Wrong as fault:
+        raise CantDo(str(fault)) from None
+
+
+def ports_for(auctions: Auctions) -> dict[str, int]:
+    """The next ports that no other auction of the folder has."""
+    taken = {int(one.rpartition(":")[2]) for auction in auctions.all() for one in auction.addresses() if one.rpartition(":")[2].isdecimal()}
+    for place in range(MOST_AUCTIONS):
+        ports = {field: first + place for field, first in PORTS.items()}
+        if not taken & set(ports.values()):
+            return ports
+    raise CantDo(f"{auctions.folder} has {MOST_AUCTIONS:,} auctions already")
+
+
+def write(path: pathlib.Path, text: str) -> None:
+    with path.open("x", encoding="utf-8") as file:
+        file.write(text)
+        file.flush()
+        os.fsync(file.fileno())
+
+
+def sync(folder: pathlib.Path) -> None:
+    """The names in a folder are on the disk from then on."""
+    file = os.open(folder, os.O_RDONLY | os.O_DIRECTORY)
+    try:
+        os.fsync(file)
+    finally:
+        os.close(file)
+
+
+# The definition.
+
+
+def definition_text(path: pathlib.Path) -> str:
+    """A definition as `hpb format` takes it: a file of JSON as it stands, or the rows of a spreadsheet."""
+    try:
+        text = path.read_text(encoding="utf-8-sig")
+    except OSError as fault:
+        raise CantDo(f"{path}: {fault.strerror}") from None
+    except UnicodeDecodeError:
+        raise CantDo(f"{path}: it is no text in UTF-8") from None
+    return json.dumps(from_rows(text)) if path.suffix.lower() == ".csv" else text
+
+
+def from_rows(text: str) -> dict[str, Any]:
+    """A definition by rows: `step,10`, `percent,10`, `waivers,2`, `stages,80,95`, `node,NAME,PARENT,UNITS,OPENING`, `bidder,NAME,UNITS`. Empty
+    cells at the end of a row don't count. A package has neither units nor an opening bid, and the whole has no parent."""
+    definition: dict[str, Any] = {"nodes": [], "bidders": []}
+    rows = text.splitlines()
+    delimiter = max(DELIMITERS, key=lambda mark: sum(mark in row for row in rows))
+    for number, row in enumerate(csv.reader(rows, delimiter=delimiter), 1):
+        cells = [cell.strip() for cell in row]
+        while cells and not cells[-1]:
+            cells.pop()
+        if not cells or cells[0].startswith("#"):
+            continue
+        try:
+            add_row(definition, cells[0].lower(), cells[1:])
+        except (ValueError, IndexError):
+            raise CantDo(f"row {number} isn't one of a definition: {','.join(cells)}") from None
+    return definition
+
+
+def add_row(definition: dict[str, Any], kind: str, cells: list[str]) -> None:
+    if kind in ("step", "percent", "waivers"):
+        (definition[kind],) = map(int, cells)
+    elif kind == "stages":
+        definition[kind] = [int(cell) for cell in cells]
+    elif kind == "bidder":
+        name, units = cells
+        definition["bidders"].append({"name": name, "units": int(units)})
+    elif kind == "node":
+        name, parent, *numbers = (*cells, "", "", "")[: max(NODE_CELLS, len(cells))]
+        node: dict[str, Any] = {"name": name, "parent": parent or None}
+        node |= {field: int(cell) for field, cell in zip(("units", "opening"), numbers, strict=True) if cell}
+        definition["nodes"].append(node)
+    else:
+        raise ValueError(kind)

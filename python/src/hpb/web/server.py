@@ -1,0 +1,102 @@
+"""The site as a server: its parts together, its sockets, and its end."""
+import asyncio
+import ssl
+from collections.abc import Callable
+from typing import Final, cast
+
+from aiohttp import web
+
+from hpb.client.aio import AsyncClient
+from hpb.web.acting import Acting
+from hpb.web.api import Api
+from hpb.web.config import Config, Wrong
+from hpb.web.doors import HEAD_SECONDS, MOST_CONNECTIONS, Doors
+from hpb.web.drafts import Drafts
+from hpb.web.keeping import Keeper
+from hpb.web.links import client_of
+from hpb.web.names import Names
+from hpb.web.notes import Notes
+from hpb.web.pages import Pages
+from hpb.web.resources import Site
+from hpb.web.results import Results
+from hpb.web.sending import Sender
+from hpb.web.walls import MOST_BODY, guarded
+
+# How long a call of the front may take, and how long requests may go on at the end, in seconds.
+FRONT_SECONDS, END_SECONDS = 20.0, 3.0
+# Longest first line and longest field of a request, in bytes.
+MOST_LINE: Final = 8_190
+
+
+def connects(config: Config) -> Callable[[str], AsyncClient]:
+    """Makes clients of the front, by token."""
+    return lambda token: client_of(config.front, token, config.ca, config.plain, FRONT_SECONDS)
+
+
+def is_secure(config: Config) -> bool:
+    """Whether browsers reach the site by TLS."""
+    return config.certificate is not None or config.behind_proxy
+
+
+def application_of(config: Config, site: Site, names: Names, sender: Sender, notes: Notes) -> web.Application:
+    """The application with all its routes."""
+    application = web.Application(middlewares=[guarded(config.names, is_secure(config), notes)], client_max_size=MOST_BODY)
+    Api(site, names, is_secure(config), config.behind_proxy).add_to(application)
+    pages = Pages(site, names, sender, notes, is_secure(config), config.behind_proxy)
+    pages.add_to(application)
+    Acting(pages).add_to(application)
+    return application
+
+
+async def serve(config: Config, notes: Notes, say: Callable[[str], None], until: asyncio.Event) -> None:
+    """Serves until the event. `say` gets the site's address once it can be reached. If it can't be served, `Wrong` is raised."""
+    results = Results(config.results, config.tree, config.title) if config.results else None
+    names, sender = Names(config.tree, connects(config), notes), Sender(Drafts(config.drafts))
+    site = Site(config.tree, config.title, results)
+    runner = web.AppRunner(
+        application_of(config, site, names, sender, notes), handle_signals=False, access_log=None, max_line_size=MOST_LINE, max_field_size=MOST_LINE,
+    )
+    await runner.setup()
+    tasks = list[asyncio.Task[None]]()
+    server: asyncio.Server | None = None
+    try:
+        server, address = await _listening(runner, config)
+        say(address)
+        if results and config.public:
+            public = config.public
+            tasks.append(asyncio.create_task(Keeper(lambda: names.link_of(public, ""), results, notes).run()))
+        await until.wait()
+    finally:
+        if server:
+            server.close()
+        for task in tasks:
+            task.cancel()
+        await runner.shutdown()
+        assert runner.server
+        await runner.server.shutdown(END_SECONDS)
+        await runner.cleanup()
+        await sender.end()
+        await names.end()
+
+
+async def _listening(runner: web.AppRunner, config: Config) -> tuple[asyncio.Server, str]:
+    """Listens, and returns the site's address, too."""
+    make = cast(Callable[[], asyncio.Protocol], runner.server)
+    doors = Doors(make, MOST_CONNECTIONS) if config.behind_proxy else Doors(make)
+    try:
+        context = _context(config)
+        seconds = HEAD_SECONDS if context else None
+        server = await asyncio.get_running_loop().create_server(doors, *config.listen, ssl=context, ssl_handshake_timeout=seconds, backlog=128)
+    except (OSError, ssl.SSLError) as fault:
+        raise Wrong(f"{config.listen[0]}, port {config.listen[1]}: {fault.strerror or fault}") from None
+    host, port = server.sockets[0].getsockname()[:2]
+    return server, f"http{'s' if context else ''}://{f'[{host}]' if ':' in host else host}:{port}/"
+
+
+def _context(config: Config) -> ssl.SSLContext | None:
+    if config.certificate is None or config.key is None:
+        return None
+    context = ssl.create_default_context(ssl.Purpose.CLIENT_AUTH)
+    context.minimum_version = ssl.TLSVersion.TLSv1_2
+    context.load_cert_chain(config.certificate, config.key)
+    return context
