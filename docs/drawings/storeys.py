@@ -35,7 +35,7 @@ STOREYS: Final = (
     Storey("meaning", "definitions, laws", "plain", ("hpb_rules",)),
     Storey("tests", "no part of the program", "test", (
         "hpb_test_sessions", "hpb_test_simulation", "hpb_test_house", "hpb_test_run", "hpb_test_engine", "hpb_test_auction",
-        "hpb_test_memory", "hpb_tried", "hpb_bench")),
+        "hpb_test_memory", "hpb_bench")),
 )
 
 

@@ -22,7 +22,7 @@ PARTS: Final = {"Board": MEMORY, "Eye": PLACE, "Bell": MEMORY, "Viewer": PLACE, 
 
 
 def definition_of(nodes: int) -> bytes:
-    """Packages of two nodes each, and licences under them, as in crates/hpb_tried."""
+    """Packages of two nodes each, and licences under them, as in crates/hpb_test_memory."""
     packages = nodes // 2
     written: list[dict[str, object]] = []
     for place in range(nodes):

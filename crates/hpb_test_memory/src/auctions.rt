@@ -1,12 +1,12 @@
 //! Calls that make auctions.
 
+use crate::trials::{
+    Came, Tried, auction_came, begin, definition, end, sum_of_auction, sum_of_definition,
+};
 use anyhow::Result;
 use hpb_auction::{Auction, Run, run_commands};
 use hpb_rules::{BidderId, Command, NodeId, Refusal};
 use hpb_tree::Definition;
-use hpb_tried::{
-    Came, Tried, auction_came, begin, definition, end, sum_of_auction, sum_of_definition,
-};
 use std::alloc::{AllocError, Global};
 
 /// Tries `Auction::new`.

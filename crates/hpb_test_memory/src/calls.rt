@@ -3,12 +3,12 @@
 use crate::files::Way;
 use crate::houses::Begun;
 use crate::memories::Call;
+use crate::trials::{Tried, tell};
 use crate::{
     auctions, definitions, engines, files, formats, houses, memories, openings, scripts, sessions,
     starts, texts,
 };
 use anyhow::{Result, bail};
-use hpb_tried::{Tried, tell};
 use std::sync::Wait;
 
 /// Makes the call of this name, and writes its result.

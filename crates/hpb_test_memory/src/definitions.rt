@@ -1,5 +1,8 @@
 //! Calls that make definitions.
 
+use crate::trials::{
+    Came, Tried, begin, definition, definition_came, draft, end, sum_of, sum_of_definition,
+};
 use anyhow::Result;
 use hpb_codec::{
     HEAD_SIZE, Head, JournalLayout, JournalShape, StateFormat, decode_head, encode_head,
@@ -7,9 +10,6 @@ use hpb_codec::{
 use hpb_define::{DefineFault, read_definition};
 use hpb_rules::Refusal;
 use hpb_tree::{Definition, DefinitionFault, Draft};
-use hpb_tried::{
-    Came, Tried, begin, definition, definition_came, draft, end, sum_of, sum_of_definition,
-};
 use std::alloc::{AllocError, Global};
 use std::io::Read;
 

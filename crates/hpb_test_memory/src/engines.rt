@@ -1,10 +1,10 @@
 //! Calls of an engine.
 
+use crate::trials::{Came, Tried, begin, came_of, end, engine, engine_sum, events, is_sum};
 use anyhow::Result;
 use hpb_disk::FileDisk;
 use hpb_engine::{Engine, Event, Run};
 use hpb_rules::Refusal;
-use hpb_tried::{Came, Tried, begin, came_of, end, engine, engine_sum, events, is_sum};
 
 /// The result of events: the sum of the engine, and how many answers left.
 fn ran(rt: &HostRuntime, engine: &Engine<FileDisk>, answers: usize) -> Came {

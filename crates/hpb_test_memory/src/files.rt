@@ -1,9 +1,9 @@
 //! Calls of devices in files.
 
+use crate::trials::{Came, FILE, Tried, begin, came_of, end, file_sum, is_sum, new_file, size_of};
 use anyhow::Result;
 use hpb_disk::{FileDisk, FileFault};
 use hpb_rules::Refusal;
-use hpb_tried::{Came, FILE, Tried, begin, came_of, end, file_sum, is_sum, new_file, size_of};
 use std::fs;
 
 /// The result of a call that makes a device. Its file is closed.

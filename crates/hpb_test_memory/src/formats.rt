@@ -1,12 +1,12 @@
 //! Calls that format a device.
 
+use crate::trials::{
+    Came, Tried, begin, came_of, definition, end, file_sum, is_sum, new_file, shape_of,
+};
 use anyhow::Result;
 use hpb_disk::FileDisk;
 use hpb_format::{FormatFault, format, format_layout};
 use hpb_tree::Definition;
-use hpb_tried::{
-    Came, Tried, begin, came_of, definition, end, file_sum, is_sum, new_file, shape_of,
-};
 
 /// The number of the layout that `format` uses.
 const FIRST: u8 = 1;

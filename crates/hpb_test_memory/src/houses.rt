@@ -1,16 +1,14 @@
 //! The call that starts a house.
-ghost use Rattle.std.specs.Prelude.{◌≡◌, ◌≤◌, IfErr};
-ghost use Rattle.hpb_house.specs.Told.{cause_of, refusal_of};
-ghost use Rattle.hpb_tried.specs.declared.came.Came.TheVariants.{Refused};
+ghost use Rattle.std.specs.Prelude.{◌≤◌};
 ghost use Rattle.hpb_rules.specs.declared.limits.TheConstants.{MOST_SEATS};
 
+use crate::trials::{
+    Came, Tried, auction_and_file_sum, begin, came_of, end, is_sum, opened, opened_sum,
+};
 use anyhow::Result;
 use hpb_disk::FileDisk;
 use hpb_house::{House, StartFault, StartPart, Started};
 use hpb_recover::Opened;
-use hpb_tried::{
-    Came, Tried, auction_and_file_sum, begin, came_of, end, is_sum, opened, opened_sum,
-};
 use std::sync::Wait;
 
 /// A call that was made, and the part that was refused the first time, if one was.
@@ -30,9 +28,7 @@ fn sessions_of(nodes: u64) -> u8
 fn came<W: Wait + Drop>(
     rt: &HostRuntime,
     made: Result<Started<FileDisk, W>, StartFault<FileDisk>>,
-) -> Came
-    ensures refused { IfErr made (λ fault. result ≡ Refused (refusal_of (cause_of fault.part))) }
-{
+) -> Came {
     match made {
         Ok(started) => came_of(started_sum(rt, &started)),
         Err(fault) => Came::Refused(fault.cause().refusal()),

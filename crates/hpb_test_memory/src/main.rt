@@ -18,6 +18,7 @@ mod scripts;
 mod sessions;
 mod starts;
 mod texts;
+mod trials;
 
 use crate::calls::tried;
 use crate::scripts::{lines_answered, script_answered};

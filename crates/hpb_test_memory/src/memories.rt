@@ -1,9 +1,9 @@
 //! Calls of devices in memory.
 
+use crate::trials::{Came, Tried, begin, end, size_of, sum_of};
 use anyhow::Result;
 use hpb_disk::{Disk, DiskFailed, Fate, MemoryDisk};
 use hpb_rules::Refusal;
-use hpb_tried::{Came, Tried, begin, end, size_of, sum_of};
 use std::alloc::{AllocError, Global};
 
 /// The fate of each write at a stop.

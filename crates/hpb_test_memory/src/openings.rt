@@ -1,17 +1,12 @@
 //! The call that opens a device.
-ghost use Rattle.std.specs.Prelude.{◌≡◌, IfErr};
-ghost use Rattle.hpb_recover.specs.Causes.{refusal_of};
-ghost use Rattle.hpb_tried.specs.declared.came.Came.TheVariants.{Refused};
 
+use crate::trials::{Came, Tried, begin, came_of, end, file_sum, formatted, is_sum, opened_sum};
 use anyhow::Result;
 use hpb_disk::FileDisk;
 use hpb_recover::{OpenFault, Opened, open};
-use hpb_tried::{Came, Tried, begin, came_of, end, file_sum, formatted, is_sum, opened_sum};
 
 /// The result of a call that opens a device.
-fn came(rt: &HostRuntime, made: Result<Opened<FileDisk>, OpenFault<FileDisk>>) -> Came
-    ensures refused { IfErr made (λ fault. result ≡ Refused (refusal_of fault.cause)) }
-{
+fn came(rt: &HostRuntime, made: Result<Opened<FileDisk>, OpenFault<FileDisk>>) -> Came {
     match made {
         Ok(opened) => came_of(opened_sum(rt, &opened)),
         Err(fault) => Came::Refused(fault.cause.refusal()),

@@ -1,12 +1,12 @@
 //! Calls that answer lines.
 
 use crate::definitions::input;
+use crate::trials::{Came, Tried, begin, definition, end, sum_of, sum_of_auction};
 use anyhow::Result;
 use hpb_auction::Auction;
 use hpb_define::read_definition;
 use hpb_rules::Refusal;
 use hpb_server::{ScriptDesk, ScriptEnd, SessionFault, run_script, serve_auction};
-use hpb_tried::{Came, Tried, begin, definition, end, sum_of, sum_of_auction};
 use std::alloc::Global;
 
 /// The auction whose lines are answered.

@@ -1,14 +1,11 @@
 //! The call that answers lines by an engine.
-ghost use Rattle.std.specs.Prelude.{◌≡◌, IfErr};
-ghost use Rattle.hpb_server.specs.Fault.{refusal_of};
-ghost use Rattle.hpb_tried.specs.declared.came.Came.TheVariants.{Refused};
 
+use crate::trials::{Came, Tried, begin, came_of, end, engine, engine_sum, is_sum, sum_of};
 use anyhow::Result;
 use hpb_disk::FileDisk;
 use hpb_engine::Engine;
 use hpb_rules::MOST_LETTERS;
 use hpb_run::{Pace, Ran, run_device};
-use hpb_tried::{Came, Tried, begin, came_of, end, engine, engine_sum, is_sum, sum_of};
 use std::io::Read;
 
 /// Room for more bytes than the answers have.
@@ -33,9 +30,7 @@ fn answered(
 }
 
 /// The result: the sum of the engine and of the answers.
-fn came(rt: &HostRuntime, ran: &Ran<FileDisk>, output: &[u8]) -> Came
-    ensures refused { IfErr ran.now.end (λ fault. result ≡ Refused (refusal_of fault)) }
-{
+fn came(rt: &HostRuntime, ran: &Ran<FileDisk>, output: &[u8]) -> Came {
     match ran.end {
         Ok(()) => {
             let sum = engine_sum(rt, &ran.engine);

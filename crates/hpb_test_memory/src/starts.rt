@@ -1,21 +1,17 @@
 //! Calls that start an engine, and take events.
-ghost use Rattle.std.specs.Prelude.{OnErr};
-ghost use Rattle.hpb_tried.specs.Tries.{LacksMemory};
 
+use crate::trials::{
+    Came, Tried, begin, came_of, end, engine, engine_sum, events, file_sum, is_sum, opened,
+    opened_sum,
+};
 use anyhow::Result;
 use hpb_disk::FileDisk;
 use hpb_engine::{Driven, Engine, Event, drive, drive_opened};
 use hpb_recover::{Opened, open};
 use hpb_rules::Refusal;
-use hpb_tried::{
-    Came, Tried, begin, came_of, end, engine, engine_sum, events, file_sum, is_sum, opened,
-    opened_sum,
-};
 
 /// The result of a call that starts an engine.
-fn came(rt: &HostRuntime, made: Result<Engine<FileDisk>, Opened<FileDisk>>) -> Came
-    ensures refused { OnErr made (LacksMemory result) }
-{
+fn came(rt: &HostRuntime, made: Result<Engine<FileDisk>, Opened<FileDisk>>) -> Came {
     match made {
         Ok(engine) => came_of(engine_sum(rt, &engine)),
         Err(_) => Came::Refused(Refusal::Memory),
@@ -52,9 +48,7 @@ fn drove(rt: &HostRuntime, driven: &Driven<FileDisk>) -> Came {
 }
 
 /// The result of a call that takes events.
-fn driven<B: Drop>(rt: &HostRuntime, made: Result<Driven<FileDisk>, B>) -> Came
-    ensures refused { OnErr made (LacksMemory result) }
-{
+fn driven<B: Drop>(rt: &HostRuntime, made: Result<Driven<FileDisk>, B>) -> Came {
     match made {
         Ok(made) => drove(rt, &made),
         Err(_) => Came::Refused(Refusal::Memory),

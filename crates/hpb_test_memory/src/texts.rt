@@ -1,9 +1,9 @@
 //! Calls that make room for answers, and write them.
 
+use crate::trials::{Came, Tried, begin, definition, end, sum_of};
 use anyhow::Result;
 use hpb_auction::Auction;
 use hpb_rules::Refusal;
-use hpb_tried::{Came, Tried, begin, definition, end, sum_of};
 use hpb_wire::{ResponseText, show};
 use std::alloc::AllocError;
 

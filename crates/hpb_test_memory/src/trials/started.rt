@@ -1,15 +1,8 @@
 //! An opened device, an engine over it, and their sums.
-ghost use Rattle.std.specs.Prelude.{◌≡◌, ◌↔◌, ℕ, false, IfOk, IsTrue};
-ghost use Rattle.hpb_disk.specs.FileDisks.{file_device};
-ghost use Rattle.hpb_disk.specs.Images.{Within};
-ghost use Rattle.hpb_tried.specs.Files.{IsFirst, IsNewOf};
-ghost use Rattle.hpb_tried.specs.FileSums.{IsGiven, told_by};
 
-use crate::files::{file_sum, formatted};
-use crate::{Came, sum_of, sum_of_auction};
+use super::{Came, file_sum, formatted, sum_of, sum_of_auction};
 use anyhow::{Error, Result, bail};
 use hpb_auction::Auction;
-use hpb_codec::heads_are_one;
 use hpb_disk::{Disk, FileDisk};
 use hpb_engine::{Checkpoint, Commit, Engine, Progress, Retirement, Window};
 use hpb_recover::{Opened, Plan, open};
@@ -17,11 +10,7 @@ use hpb_rules::Refusal;
 use std::alloc::{AllocError, Global};
 
 /// Opens a new device.
-fn open_new<D: Disk + Drop>(alloc: Global, disk: D) -> Result<Opened<D>>
-    ensures device { (nodes layout : ℕ) → Within (D.device disk).may_leave (IsNewOf nodes layout) → IfOk result (λ opened. IsNewOf nodes layout (D.device opened.disk).seen) }
-    ensures auction { (nodes layout : ℕ) → Within (D.device disk).may_leave (IsNewOf nodes layout) → IfOk result (λ opened. IsFirst nodes opened.plan.auction) }
-{
-    heads_are_one();
+fn open_new<D: Disk + Drop>(alloc: Global, disk: D) -> Result<Opened<D>> {
     match open(alloc, disk) {
         Ok(opened) => Ok(opened),
         Err(fault) => Err(Error::from(fault.cause)),
@@ -29,20 +18,13 @@ fn open_new<D: Disk + Drop>(alloc: Global, disk: D) -> Result<Opened<D>>
 }
 
 /// A new file of an auction of this many nodes, opened.
-pub fn opened(rt: &HostRuntime, nodes: u64, layout: u8) -> Result<Opened<FileDisk>>
-    ensures device { IfOk result (λ opened. IsNewOf nodes layout (file_device opened.disk).seen) }
-    ensures auction { IfOk result (λ opened. IsFirst nodes opened.plan.auction) }
-{
+pub(crate) fn opened(rt: &HostRuntime, nodes: u64, layout: u8) -> Result<Opened<FileDisk>> {
     let disk = formatted(rt, nodes, layout)?;
     open_new(rt.alloc(), disk)
 }
 
 /// An engine over such a file.
-pub fn engine(rt: &HostRuntime, nodes: u64, layout: u8) -> Result<Engine<FileDisk>>
-    ensures device { IfOk result (λ engine. IsNewOf nodes layout (file_device engine.disk).seen) }
-    ensures auction { IfOk result (λ engine. IsFirst nodes engine.progress.committed) }
-    ensures works { IfOk result (λ engine. engine.failed ≡ false) }
-{
+pub(crate) fn engine(rt: &HostRuntime, nodes: u64, layout: u8) -> Result<Engine<FileDisk>> {
     let opened = opened(rt, nodes, layout)?;
     match Engine::start(rt.alloc(), opened) {
         Ok(engine) => Ok(engine),
@@ -51,7 +33,7 @@ pub fn engine(rt: &HostRuntime, nodes: u64, layout: u8) -> Result<Engine<FileDis
 }
 
 /// The sum of an auction, and of the file.
-pub fn auction_and_file_sum(rt: &HostRuntime, auction: &Auction) -> Option<u64> {
+pub(crate) fn auction_and_file_sum(rt: &HostRuntime, auction: &Auction) -> Option<u64> {
     match (file_sum(rt), sum_of_auction(rt.alloc(), auction)) {
         (Some(file), Ok(auction)) => Some(file ^ auction),
         _ => None,
@@ -82,7 +64,7 @@ fn sum_with(rt: &HostRuntime, auction: &Auction, text: &Result<String, AllocErro
 }
 
 /// The sum of all that opening gave, and of the file.
-pub fn opened_sum(rt: &HostRuntime, opened: &Opened<FileDisk>) -> Option<u64> {
+pub(crate) fn opened_sum(rt: &HostRuntime, opened: &Opened<FileDisk>) -> Option<u64> {
     sum_with(rt, opened.auction(), &plan_text(rt.alloc(), &opened.plan))
 }
 
@@ -128,22 +110,18 @@ fn engine_text(alloc: Global, engine: &Engine<FileDisk>) -> Result<String, Alloc
 }
 
 /// The sum of an engine at rest, and of the file.
-pub fn engine_sum(rt: &HostRuntime, engine: &Engine<FileDisk>) -> Option<u64> {
+pub(crate) fn engine_sum(rt: &HostRuntime, engine: &Engine<FileDisk>) -> Option<u64> {
     sum_with(rt, engine.committed(), &engine_text(rt.alloc(), engine))
 }
 
 /// Whether a sum is there and equals the given one.
-pub fn is_sum(found: Option<u64>, given: Option<u64>) -> bool
-    ensures { IsTrue result ↔ IsGiven found given }
-{
+pub(crate) fn is_sum(found: Option<u64>, given: Option<u64>) -> bool {
     found.is_some() && found == given
 }
 
 /// The result of a call that succeeded, by the sum of its results. Without a sum it is `stream`, by which no call here
 /// is refused.
-pub fn came_of(sum: Option<u64>) -> Came
-    ensures { result ≡ told_by sum }
-{
+pub(crate) fn came_of(sum: Option<u64>) -> Came {
     match sum {
         Some(sum) => Came::Well(sum),
         None => Came::Refused(Refusal::Stream),

@@ -1,13 +1,11 @@
 //! The result of a call.
-ghost use Rattle.std.specs.Prelude.{Some};
-ghost use Rattle.hpb_tried.specs.Tries.{came_text};
 
 use hpb_rules::Refusal;
 use std::fmt;
 
 /// The result of a call. It is written as `ok` and the sum, or as the number and the word of the refusal.
 #[derive(Clone, Copy, Debug, PartialEq, Eq)]
-pub enum Came {
+pub(crate) enum Came {
     /// It succeeded: a sum of all its results.
     Well(u64),
     /// It was refused.
@@ -15,8 +13,6 @@ pub enum Came {
 }
 
 impl fmt::Display for Came {
-    ghost output = { λ came. Some (came_text came) };
-
     fn fmt<W: fmt::Write>(&self, f: &mut fmt::Formatter<W>) -> fmt::Result {
         match *self {
             Came::Well(sum) => write!(f, "ok {sum}"),

@@ -1,11 +1,6 @@
 //! A call that was tried.
-ghost use Rattle.std.specs.Prelude.{◌≡◌, IfOk, OnErr};
-ghost use Rattle.hpb_tried.specs.declared.came.Came.TheVariants.{Well};
-ghost use Rattle.hpb_tried.specs.Sums.{sum_of_auction, sum_of_definition};
-ghost use Rattle.hpb_tried.specs.Tries.{LacksMemory};
 
-use crate::came::Came;
-use crate::sums::{sum_of_auction, sum_of_definition};
+use super::{Came, sum_of_auction, sum_of_definition};
 use hpb_auction::Auction;
 use hpb_rules::Refusal;
 use hpb_tree::Definition;
@@ -14,22 +9,16 @@ use std::io;
 
 /// A call that was made once, and once more with memory.
 #[derive(Clone, Copy, Debug, PartialEq, Eq)]
-pub struct Tried {
-    pub first: Came,
+pub(crate) struct Tried {
+    pub(crate) first: Came,
     /// Whether its argument is the same afterwards.
-    pub is_same: bool,
-    pub again: Came,
+    pub(crate) is_same: bool,
+    pub(crate) again: Came,
 }
 
 impl Tried {
-    ghost use Rattle.std.specs.Prelude.{◌≡◌, true};
-
     /// A call that succeeded, and took its argument.
-    pub fn well(came: Came) -> Self
-        ensures first { result.first ≡ came }
-        ensures same { result.is_same ≡ true }
-        ensures again { result.again ≡ came }
-    {
+    pub(crate) fn well(came: Came) -> Self {
         Tried {
             first: came,
             is_same: true,
@@ -39,7 +28,7 @@ impl Tried {
 }
 
 /// Writes the result of a call, whether its argument is the same, and the result of the second call.
-pub fn tell<R: Print>(rt: &R, tried: &Tried) -> io::Result<()> {
+pub(crate) fn tell<R: Print>(rt: &R, tried: &Tried) -> io::Result<()> {
     let Tried {
         first,
         is_same,
@@ -50,13 +39,10 @@ pub fn tell<R: Print>(rt: &R, tried: &Tried) -> io::Result<()> {
 }
 
 /// The result of a call that makes a definition: its sum, or that memory was refused (90 `memory`).
-pub fn definition_came(
+pub(crate) fn definition_came(
     alloc: Global,
     made: Result<Definition, AllocError>,
-) -> Result<Came, AllocError>
-    ensures refused { OnErr made (IfOk result LacksMemory) }
-    ensures came { IfOk made (λ definition. IfOk result (λ came. came ≡ Well (sum_of_definition definition))) }
-{
+) -> Result<Came, AllocError> {
     match made {
         Ok(definition) => Ok(Came::Well(sum_of_definition(alloc, &definition)?)),
         Err(_) => Ok(Came::Refused(Refusal::Memory)),
@@ -64,10 +50,10 @@ pub fn definition_came(
 }
 
 /// The result of a call that makes an auction: its sum, or that memory was refused (90 `memory`).
-pub fn auction_came(alloc: Global, made: Result<Auction, AllocError>) -> Result<Came, AllocError>
-    ensures refused { OnErr made (IfOk result LacksMemory) }
-    ensures came { IfOk made (λ auction. IfOk result (λ came. came ≡ Well (sum_of_auction auction))) }
-{
+pub(crate) fn auction_came(
+    alloc: Global,
+    made: Result<Auction, AllocError>,
+) -> Result<Came, AllocError> {
     match made {
         Ok(auction) => Ok(Came::Well(sum_of_auction(alloc, &auction)?)),
         Err(_) => Ok(Came::Refused(Refusal::Memory)),

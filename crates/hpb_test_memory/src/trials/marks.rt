@@ -3,11 +3,11 @@
 use std::io;
 
 /// Writes that the call begins.
-pub fn begin<R: Print>(rt: &R) -> io::Result<()> {
+pub(crate) fn begin<R: Print>(rt: &R) -> io::Result<()> {
     rt.println("CALL")
 }
 
 /// Writes that the call has ended.
-pub fn end<R: Print>(rt: &R) -> io::Result<()> {
+pub(crate) fn end<R: Print>(rt: &R) -> io::Result<()> {
     rt.println("CAME")
 }

@@ -1,15 +1,11 @@
 //! Definitions of each size: packages of two nodes each, and licences under them.
-ghost use Rattle.std.specs.Prelude.{◌≡◌, ◌+◌, ◌≤◌, IfOk, map};
-ghost use Rattle.std.specs.List.{range_with_len};
-ghost use Rattle.hpb_tree.specs.Draft.{bidder_said, bidders_said, node_said, nodes_said, rules_of};
-ghost use Rattle.hpb_tried.specs.Drafts.{bidder_of, node_at, parent_at, rules_with};
 
 use anyhow::Result;
 use hpb_tree::{BidderDraft, Definition, Draft, NodeDraft, TermsDraft};
 use std::alloc::{AllocError, Global};
 
 /// The greatest number of nodes.
-pub const MOST: u64 = 127;
+pub(crate) const MOST: u64 = 127;
 
 /// The terms of each licence.
 const TERMS: TermsDraft = TermsDraft {
@@ -21,9 +17,7 @@ const TERMS: TermsDraft = TermsDraft {
 const BIDDER_UNITS: u64 = 64;
 
 /// The parent of the node at a place. A package's two children are at twice its place plus one, and plus two.
-fn parent(place: u64) -> Option<u64>
-    ensures { result ≡ parent_at place }
-{
+fn parent(place: u64) -> Option<u64> {
     if place == 0 {
         None
     } else {
@@ -32,9 +26,7 @@ fn parent(place: u64) -> Option<u64>
 }
 
 /// The node at a place. The packages come first.
-fn node(alloc: Global, packages: u64, place: u64) -> Result<NodeDraft, AllocError>
-    ensures { IfOk result (λ node. node_said node ≡ node_at packages place) }
-{
+fn node(alloc: Global, packages: u64, place: u64) -> Result<NodeDraft, AllocError> {
     let terms = if place < packages { None } else { Some(TERMS) };
     Ok(NodeDraft {
         name: format!(in alloc; "n{place}")?,
@@ -43,9 +35,7 @@ fn node(alloc: Global, packages: u64, place: u64) -> Result<NodeDraft, AllocErro
     })
 }
 
-fn node_drafts(alloc: Global, packages: u64, count: u64) -> Result<Vec<NodeDraft>, AllocError>
-    ensures { IfOk result (λ nodes. nodes_said nodes.items ≡ map (node_at packages) (range_with_len 0 count)) }
-{
+fn node_drafts(alloc: Global, packages: u64, count: u64) -> Result<Vec<NodeDraft>, AllocError> {
     let mut nodes = Vec::new(alloc);
     for place in 0..count {
         nodes.push(node(alloc, packages, place)?)?;
@@ -53,31 +43,24 @@ fn node_drafts(alloc: Global, packages: u64, count: u64) -> Result<Vec<NodeDraft
     Ok(nodes)
 }
 
-fn bidder(alloc: Global, licence: u64) -> Result<BidderDraft, AllocError>
-    ensures { IfOk result (λ bidder. bidder_said bidder ≡ bidder_of licence) }
-{
+fn bidder(alloc: Global, licence: u64) -> Result<BidderDraft, AllocError> {
     Ok(BidderDraft {
         name: format!(in alloc; "b{licence}")?,
         units: BIDDER_UNITS,
     })
 }
 
-fn bidder_drafts(alloc: Global, packages: u64, count: u64) -> Result<Vec<BidderDraft>, AllocError>
-    requires { packages + count ≤ MOST }
-    ensures { IfOk result (λ bidders. bidders_said bidders.items ≡ map bidder_of (range_with_len packages count)) }
-{
+fn bidder_drafts(alloc: Global, packages: u64, count: u64) -> Result<Vec<BidderDraft>, AllocError> {
     let mut bidders = Vec::new(alloc);
     for place in 0..count {
-        bidders.push(bidder(alloc, packages + place)?)?;
+        bidders.push(bidder(alloc, packages.saturating_add(place))?)?;
     }
     Ok(bidders)
 }
 
 /// A draft of this many nodes, an odd number from 1 to 127; the greatest has 64 licences. There are as many bidders as
 /// licences, and each may bid on all of them.
-pub fn draft(alloc: Global, nodes: u64) -> Result<Draft, AllocError>
-    ensures { IfOk result (λ draft. rules_of draft ≡ rules_with nodes) }
-{
+pub(crate) fn draft(alloc: Global, nodes: u64) -> Result<Draft, AllocError> {
     let count = nodes.min(MOST);
     let packages = count / 2;
     Ok(Draft {
@@ -91,8 +74,6 @@ pub fn draft(alloc: Global, nodes: u64) -> Result<Draft, AllocError>
 }
 
 /// The definition by that draft.
-pub fn definition(alloc: Global, nodes: u64) -> Result<Definition>
-    ensures { IfOk result (λ definition. definition ≡ rules_with nodes) }
-{
+pub(crate) fn definition(alloc: Global, nodes: u64) -> Result<Definition> {
     Ok(Definition::check(alloc, &draft(alloc, nodes)?)?)
 }

@@ -1,6 +1,4 @@
 //! Sums of the arguments and the results of calls: other bytes most likely have another sum.
-ghost use Rattle.std.specs.Prelude.{◌≡◌, IfOk};
-ghost use Rattle.hpb_tried.specs.Sums.{fnv_1a, sum_of_auction, sum_of_definition};
 
 use hpb_auction::Auction;
 use hpb_codec::{
@@ -21,9 +19,7 @@ const JOURNAL: JournalShape = JournalShape {
 };
 
 /// The sum of bytes: their hash FNV-1a of 64 bits.
-pub fn sum_of(bytes: &[u8]) -> u64
-    ensures { result ≡ fnv_1a bytes.now }
-{
+pub(crate) fn sum_of(bytes: &[u8]) -> u64 {
     let mut sum = BASIS;
     for byte in bytes {
         sum = (sum ^ u64::from(*byte)).wrapping_mul(PRIME);
@@ -32,9 +28,7 @@ pub fn sum_of(bytes: &[u8]) -> u64
 }
 
 /// The sum of a definition: that of the head that keeps the definition.
-pub fn sum_of_definition(alloc: Global, definition: &Definition) -> Result<u64, AllocError>
-    ensures { IfOk result (λ sum. sum ≡ sum_of_definition definition.now) }
-{
+pub(crate) fn sum_of_definition(alloc: Global, definition: &Definition) -> Result<u64, AllocError> {
     let mut head = vec![in alloc; 0; HEAD_SIZE]?;
     let head = head.as_mut_slice();
     encode_head(definition, JOURNAL, StateFormat::Two, head);
@@ -42,9 +36,7 @@ pub fn sum_of_definition(alloc: Global, definition: &Definition) -> Result<u64, 
 }
 
 /// The sum of an auction: that of its state and that of its definition.
-pub fn sum_of_auction(alloc: Global, auction: &Auction) -> Result<u64, AllocError>
-    ensures { IfOk result (λ sum. sum ≡ sum_of_auction auction.now) }
-{
+pub(crate) fn sum_of_auction(alloc: Global, auction: &Auction) -> Result<u64, AllocError> {
     let mut state = vec![in alloc; 0; STATE_SIZE]?;
     let state = state.as_mut_slice();
     let mut saved = Saved::empty();
