@@ -17,7 +17,7 @@ from typing import cast
 from boards import Site
 from fronts import Front, token_of
 from harness.programs import Program, shown
-from harness.serving import ADDRESS, read_line, wait_until
+from harness.serving import ADDRESS, read_line
 from sites import Copy, Lane, Nursery
 from sweeping import DEFINITION, LIBRARIES
 

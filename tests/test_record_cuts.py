@@ -235,7 +235,7 @@ def subsets(old: bytes, new: bytes, part: int) -> Iterator[bytes]:
 def test_each_part_of_one_write_kept_or_lost(part: int, entries: int, room: Path) -> None:
     """All subsets. Everything synced before is there, and so are the whole entries of the write before its first lost part."""
     path = room / "R"
-    record, dice, told = RecordFile(str(path)), random.Random(2), Told()
+    record = RecordFile(str(path))
     record.open()
     record.begin(DEFINITION)
     for length in (3, entries):

@@ -89,7 +89,7 @@ def test_a_client_that_reads_nothing_and_goes_is_told_with_its_fault(file: Path,
         reset(client)
     ran = server.ended()
     assert ran.status == 0
-    assert re.search(rf"has ended: 92 stream: writing: (Connection reset by peer|Broken pipe) \(os error \d+\)\n$", ran.errors), ran
+    assert re.search(r"has ended: 92 stream: writing: (Connection reset by peer|Broken pipe) \(os error \d+\)\n$", ran.errors), ran
     assert f"({who})" in ran.errors.splitlines()[-1]
 
 

@@ -67,7 +67,7 @@ def zsh(help: Help, others: list[Help]) -> str:
         return "\n".join([*lines, *zsh_arguments(help.options)]) + "\n"
     lines += ["local line state", "_arguments -C '1: :->command' '*:: :->rest'", "case $state in", "command)", "    local -a commands=("]
     lines += [f"        {quoted(f'{command_of(one)}:{one.about}')}" for one in others]
-    lines += ["    )", f"    _describe command commands -- && return", f"    _arguments {' '.join(zsh_specs(help.options))}", "    ;;", "rest)", "    case $line[1] in"]
+    lines += ["    )", "    _describe command commands -- && return", f"    _arguments {' '.join(zsh_specs(help.options))}", "    ;;", "rest)", "    case $line[1] in"]
     for one in others:
         lines += [f"    {command_of(one)})", *(f"        {line}" for line in zsh_arguments(one.options)), "        ;;"]
     return "\n".join([*lines, "    esac", "    ;;", "esac"]) + "\n"

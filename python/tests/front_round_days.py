@@ -112,7 +112,7 @@ class RoundDay(Day):
         super().run(moves)
 
     def wild(self) -> list[tuple[Callable[[], None], int]]:
-        world, source = self.world, self.world.source
+        source = self.world.source
         more: dict[str, list[tuple[Callable[[], None], int]]] = {
             "sleeps": [(lambda: self.sleep(source.choice([7.0, 40.0, 130.0, 4000.0])), 1)],
             "set": [(lambda: self.set_clock(source.choice([-DAY_SECONDS, DAY_SECONDS, 3.0, -3.0])), 1)],

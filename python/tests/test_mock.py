@@ -132,12 +132,12 @@ def greeted(core: Core, line: str) -> list[object]:
 
 
 def test_a_client_knows_from_its_first_greeting_whether_it_is_at_a_mock() -> None:
-    for line, is_mock in (("WELCOME ann MOCK", True), ("WELCOME ann", False), ("WELCOME mock", False)):
+    for line, at_mock in (("WELCOME ann MOCK", True), ("WELCOME ann", False), ("WELCOME mock", False)):
         core = Core("token-of-sixteen")
         assert core.is_mock is None
         core.ask(Show())
         assert any(isinstance(effect, Send) and b"SHOW" in effect.data for effect in greeted(core, line))
-        assert core.is_mock is is_mock
+        assert core.is_mock is at_mock
 
 
 @pytest.mark.parametrize(("first", "second"), [("WELCOME ann MOCK", "WELCOME ann"), ("WELCOME ann", "WELCOME ann MOCK")])

@@ -238,7 +238,7 @@ def test_a_preview_says_what_the_close_then_does() -> None:
                 told = read_told(auction.tree, [format_answer(answer(auction, line)[1]) for line in questions_of(definition)])
                 books = books_of(lines).began(auction.tree, told)
             command = command_of(dice, auction)
-            before, (auction, answered) = auction, apply(auction, command)
+            before, auction = auction, apply(auction, command)[0]
             if auction.count == before.count:
                 continue
             books = books.read_up() if dice.random() < 0.1 else books

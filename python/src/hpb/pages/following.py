@@ -15,7 +15,7 @@ from hpb.pages.view import Contact, State, Told, View, period, taken
 from hpb.refusals import HpbError
 from hpb.rounds import InformationShown, News, ReadUpTo, Schedule, SealShown, parse_front_answer
 from hpb.rules.mock import is_mock
-from hpb.rules.told import NotTold, look_whose, read_standing, read_told
+from hpb.rules.told import look_whose, read_standing, read_told
 from hpb.rules.told import Told as Standing
 from hpb.rules.tree import Tree
 from hpb.threads import Signal, Thread
