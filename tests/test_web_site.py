@@ -58,7 +58,7 @@ def test_an_auction_by_http(front: Front, site: Web) -> None:
     assert site.ask("POST", "/v1/commands", "ann", bid("a", 160, 2))[1]["word"] == "round", "a bid of round 1 doesn't count in round 2"
     wait_until(lambda: site.ask("GET", "/v1/rounds/1")[0] == 200, SECONDS, "the results are kept")
     assert site.ask("GET", "/v1/rounds/1")[1]["bidders"] == [{"bidder": "z", "licences": 3, "amount": 500}]
-    assert (front.folder / "results" / "round-1.csv").read_text().splitlines()[1] == "all,,40,500,z,500,550,true"
+    assert (front.folder / "results" / "round-1.csv").read_text().splitlines()[1] == "all,,40,500,z,500,550,true,false"
     assert site.ask("POST", "/v1/commands", "desk", {"kind": "close", "ticket": 2})[1]["word"] == "end"
     assert site.ask("POST", "/v1/commands", "desk", {"kind": "close", "ticket": 2, "ending": True})[0] == 200
     assert site.ask("GET", "/v1/auction")[1]["is_over"] is True

@@ -454,7 +454,7 @@ def test_a_file_of_drafts_is_read_up_to_its_last_whole_line_and_no_other_file_is
     path.write_bytes(path.read_bytes() + b'{"name": "ann", "li')
     again = Drafts(path)
     assert [(one.name, one.state, one.number) for one in (*again.of("ann"), *again.of("desk"))] == [("ann", SENT, None), ("desk", ACCEPTED, 7)]
-    assert again.find("desk", None, 1) == Draft("desk", Close(1, True), ACCEPTED, 7, "", "2026-12-02T09:20:00Z")
+    assert again.accepted("desk", None, 1) == again.find("desk", Close(1, True)) == Draft("desk", Close(1, True), ACCEPTED, 7, "", "2026-12-02T09:20:00Z")
     again.close()
     assert path.read_bytes().endswith(b"}\n")
     for text in ("no json\n", "[]\n", '{"name": "ann"}\n', '{"name": "ann", "line": "SHOW", "state": "sent", "number": null, "why": "", "at": ""}\n'):

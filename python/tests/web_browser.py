@@ -104,8 +104,8 @@ class Browser:
         """The words of the page."""
         return " ".join(" ".join(_Forms(self.text).words).split())
 
-    async def sign_in(self, name: str, token: str | None = None) -> Browser:
-        """Signs in."""
+    async def sign_in(self, name: str, token: str | None = None, **more: str) -> Browser:
+        """Signs in. `more` are other fields of the form."""
         await self.go("/signin")
-        await self.send(self.form("/signin"), name=name, token=token or token_of(name))
+        await self.send(self.form("/signin"), name=name, token=token or token_of(name), **more)
         return self

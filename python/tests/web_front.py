@@ -8,10 +8,11 @@ from hpb.client.outcomes import NotWelcome, Unanswered
 from hpb.front.core.information import Information, Rule, Veil, prefix_for, seen_by, viewer_of
 from hpb.front.rights import AUCTIONEER, BIDDER, OBSERVER, Role, for_server
 from hpb.lines import Answer, Bid, NodeShown, Shown, Waive, WhoShown, parse_command_of_front
-from hpb.refusals import FrontRefused, HpbError
+from hpb.refusals import FrontRefused, HpbError, refusal
 from hpb.rounds import Agreed, InformationShown, News, NoNews, Previewed, Prospect, ReadUpTo, Schedule
 from hpb.rules.auction import answer, begin
 from hpb.rules.definition import read_definition
+from hpb.rules.mock import as_mock
 from hpb.rules.preview import preview
 from hpb.rules.tree import tree_of
 from serving import DEFINITION
@@ -44,6 +45,13 @@ class Front:
         self.asked: list[tuple[str, str]] = []
         self.revoked: set[str] = set()
         self.is_mock = False
+
+    def as_mock(self) -> Front:
+        """The same of a mock, whose definition has the mark. No name has the bidder that is it."""
+        self.definition = as_mock(self.definition)
+        self.tree = tree_of(self.definition)
+        self.auction, self.is_mock = begin(self.definition), True
+        return self
 
     def connect(self, token: str) -> Client:
         """A client with a token, which may be unknown. A text that can't be one raises ValueError."""
@@ -102,6 +110,8 @@ class Front:
             case ["PREVIEW"]:
                 found = preview(self.auction)
                 return Previewed(found.round, found.revenue, len(found.short), len(found.waivers), len(found.losing), found.ends)
+            case ["PREVIEW", bidder] if bidder not in preview(self.auction).bidders:
+                return refusal(11)
             case ["PREVIEW", bidder]:
                 one = preview(self.auction).bidders[bidder]
                 return Prospect(one.bidder, one.eligibility, one.activity, one.short, one.waiver, one.after)

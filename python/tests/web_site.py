@@ -2,6 +2,7 @@
 from __future__ import annotations
 
 import asyncio
+import dataclasses
 import logging
 import pathlib
 from collections.abc import AsyncIterator, Awaitable, Callable
@@ -13,10 +14,8 @@ from hpb.web.config import Config
 from hpb.web.drafts import Drafts
 from hpb.web.names import Names
 from hpb.web.notes import Notes
-from hpb.web.resources import Site
-from hpb.web.results import Results
 from hpb.web.sending import Sender
-from hpb.web.server import application_of
+from hpb.web.server import application_of, site_of
 from web_front import Front, token_of
 
 Value = TypeVar("Value")
@@ -71,7 +70,7 @@ async def visited(front: Front, results: pathlib.Path | None = None, **fields: A
     logger.addHandler(noted)
     config, notes = config_of(front, **fields), Notes(logger)
     names = Names(front.tree, front.connect, notes)
-    site = Site(front.tree, config.title, Results(results, front.tree, config.title) if results else None)
+    site = site_of(dataclasses.replace(config, results=results))
     sender = Sender(Drafts(config.drafts))
     async with TestClient(TestServer(application_of(config, site, names, sender, notes))) as client:
         yield Visitor(client, noted, names)

@@ -1,10 +1,11 @@
 """Serves an auction by HTTP: `/v1` for programs, and pages to bid and to run a round on. It asks a front, as any client does.
 
     tools/web --config web.toml
+    tools/web --config web.toml --enrol ann
 
 Once it can be reached, it writes `WEB` and its address. Each request is that of the name whose token came with it, and has no other
-rights. The interface is described by `/v1/openapi.json`, and the configuration in python/README.md. Standard error has a line of JSON
-for each time that a name signs in or out, and for each token that nobody knows.
+rights. The interface is described by `/v1/openapi.json`, and the configuration in python/README.md. `--enrol` gives a name a secret for
+codes of its app. Standard error has a line of JSON for each time that a name signs in or out, and for each token that nobody knows.
 
 The status is 0 after a signal to stop, 1 if the site can't be served, and 2 if the arguments or the configuration are wrong. Needs
 Python 3.11 and aiohttp.
@@ -31,6 +32,7 @@ def main() -> int:
     """Reads the arguments, and returns the status."""
     words = parser(__doc__)
     words.add_argument("--config", required=True, type=pathlib.Path, help="the site's configuration")
+    words.add_argument("--enrol", metavar="NAME", help="gives this name a secret for codes, writes the address for its app, and ends")
     given = words.parse_args()
     try:
         from hpb.web.config import Wrong, read_config
@@ -44,11 +46,24 @@ def main() -> int:
         say(says(fault))
         return _WRONG
     try:
+        if given.enrol is not None:
+            return _enrol(config, given.enrol)
         with noted() as notes:
             asyncio.run(_run(config, notes))
     except HpbError as fault:
         say(says(fault))
         return _FAILED
+    return 0
+
+
+def _enrol(config: "Config", name: str) -> int:
+    """A secret for a name, in the file of codes."""
+    from hpb.web.factors import enrol
+
+    if config.codes is None:
+        say("codes: missing in the configuration")
+        return _WRONG
+    print(enrol(config.codes, name, config.title))
     return 0
 
 

@@ -113,8 +113,7 @@ class Acting:
 
     def _are_known(self, visit: Visit, commands: Sequence[Command]) -> bool:
         """Whether these drafts were sent before, as they are."""
-        drafts = [self._sender.drafts.find(visit.session.name, Draft("", one).bidder, one.ticket) for one in commands]
-        return all(found is not None and found.command == one for found, one in zip(drafts, commands))
+        return all(self._sender.drafts.find(visit.session.name, one) for one in commands)
 
     def _look_at_place(self, point: Standpoint, place: dict[str, object]) -> None:
         """A basket is bound to its round and its ticket: if either has gone on, it isn't sent."""
@@ -169,17 +168,17 @@ class Acting:
 
     async def _receipt(self, visit: Visit) -> web.StreamResponse:
         parts = visit.request.match_info
-        found = self._sender.drafts.find(visit.session.name, parts["bidder"], _whole(parts["ticket"]))
-        if found is None or found.state != ACCEPTED:
+        found = self._sender.drafts.accepted(visit.session.name, parts["bidder"], _whole(parts["ticket"]))
+        if found is None:
             raise problem("nothing", "there is no accepted draft with this ticket")
         (schedule,) = await visit.link.all(["SCHEDULE"], Schedule)
-        return self._pages.answer(visit, f"Receipt {found.command.ticket}", list(bidding.receipt(found, self._site.title, schedule)))
+        return self._pages.answer(visit, f"Receipt {found.command.ticket}", list(bidding.receipt(found, self._site.heading, schedule)))
 
     # The desk.
 
     async def _preview(self, visit: Visit) -> tuple[Previewed | None, list[Prospect]]:
         """What a close would do now. It may not be known."""
-        answers: list[Answer] = await visit.link.answers("PREVIEW", *(f"PREVIEW {bidder}" for bidder in self._site.tree.bidders))
+        answers: list[Answer] = await visit.link.answers("PREVIEW", *(f"PREVIEW {bidder}" for bidder in documents.bidders_of(self._site.tree)))
         try:
             return read_as(answers[0], Previewed), [read_as(answer, Prospect) for answer in answers[1:]]
         except Problem as fault:
@@ -221,7 +220,7 @@ class Acting:
 
     async def _sent_from_desk(self, visit: Visit, command: Command, what: str) -> web.StreamResponse:
         await self._sender.send(visit.session.name, visit.link, [command], WAIT_SECONDS)
-        found = self._sender.drafts.find(visit.session.name, None, command.ticket)
+        found = self._sender.drafts.find(visit.session.name, command)
         if found is None:
             raise problem("kept")
         mark = "good" if found.state == ACCEPTED else "warn" if found.state == SENT else "bad"

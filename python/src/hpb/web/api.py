@@ -7,6 +7,7 @@ from typing import Final
 
 from aiohttp import hdrs, web
 
+from hpb.web.factors import Factors
 from hpb.web.following import Event, Following, read_id
 from hpb.web.intents import document_in
 from hpb.web.links import Link
@@ -14,7 +15,7 @@ from hpb.web.names import Names
 from hpb.web.problems import Problem, problem
 from hpb.web.rendering import CSV, JSON, chosen, csv_of, json_of
 from hpb.web.resources import RESOURCES, Asked, Reply, Resource, Site
-from hpb.web.walls import Handler, add_headers, address_of, in_time
+from hpb.web.walls import Handler, Way, add_headers, address_of, certificate_of, in_time
 
 # A stream whose reader takes nothing for so many seconds is ended.
 STREAM_SECONDS: Final = 20.0
@@ -36,8 +37,8 @@ def bearer_of(request: web.Request) -> str:
 class Api:
     """The handlers of `/v1`."""
 
-    def __init__(self, site: Site, names: Names, is_secure: bool, behind_proxy: bool) -> None:
-        self._site, self._names, self._is_secure, self._behind_proxy = site, names, is_secure, behind_proxy
+    def __init__(self, site: Site, names: Names, factors: Factors, way: Way) -> None:
+        self._site, self._names, self._factors, self._way = site, names, factors, way
         self._followings: weakref.WeakKeyDictionary[Link, Following] = weakref.WeakKeyDictionary()
         self._streams = 0
 
@@ -66,8 +67,10 @@ class Api:
         return handle
 
     async def link_of(self, request: web.Request) -> Link:
-        """The link of the request's token."""
-        return await self._names.link_of(bearer_of(request), address_of(request, self._behind_proxy))
+        """The link of the request's token, whose name has come with its second factor if it has one."""
+        link = await self._names.link_of(bearer_of(request), address_of(request, self._way.behind_proxy))
+        self._factors.look(link.client.name(), certificate_of(request), is_session=False)
+        return link
 
     async def _look_at(self, fault: Problem, link: Link) -> None:
         """If the front doesn't know a token any more, nor does the site."""
@@ -89,7 +92,7 @@ class Api:
             first = await anext(events)
             response = web.StreamResponse(headers={"Content-Type": "text/event-stream; charset=utf-8", "X-Accel-Buffering": "no"})
             response.force_close()
-            add_headers(response, self._is_secure)
+            add_headers(response, self._way.is_secure)
             await response.prepare(request)
             await _send(response, RETRY + _text_of(first))
             async for found in events:

@@ -208,12 +208,14 @@ def receipt(draft: Draft, title: str, schedule: Schedule) -> list[Markup]:
     return [clock_line(schedule), section("Receipt", facts(shown), element("p", told), name="receipt")]
 
 
-def sign_in_page(token: str, said: str) -> list[Markup]:
-    """The form by which somebody signs in."""
+def sign_in_page(token: str, said: str, has_codes: bool) -> list[Markup]:
+    """The form by which somebody signs in. If some names have codes, all are asked for one."""
     fields = [
         field("Name", "name", autocomplete="username", required="required", maxlength="16"),
         field("Token", "token", type="password", autocomplete="current-password", required="required", maxlength="128"),
     ]
+    if has_codes:
+        fields.append(field("Code, if you have an app for it", "code", autocomplete="one-time-code", inputmode="numeric", maxlength="6"))
     return [notice(said, "bad") if said else NO_TEXT, section("Sign in", form("/signin", token, *fields, button("Sign in")), name="signin")]
 
 

@@ -3,20 +3,23 @@ import pathlib
 import re
 import tomllib
 from collections.abc import Mapping
-from dataclasses import dataclass
+from dataclasses import dataclass, field
 from typing import Any, Final
 
 from hpb.client.reaching import read_token
 from hpb.hosts import may_be_host
+from hpb.limits import NAME
 from hpb.refusals import HpbError, Refused
 from hpb.rules.tree import Tree, tree_of
 from hpb.rules.writing import read_script
 
 _FIELDS: Final[Mapping[str, type]] = {
     "definition": str, "front": str, "ca": str, "plain": bool, "listen": str, "certificate": str, "key": str, "names": list, "title": str,
-    "behind_proxy": bool, "public": str, "results": str, "drafts": str,
+    "behind_proxy": bool, "public": str, "results": str, "drafts": str, "codes": str, "clients": str, "certificates": dict,
 }
 _NEEDED: Final = ("definition", "front", "listen")
+# A certificate by its SHA-256, or by its subject.
+_DIGEST, _SUBJECT = re.compile(r"[0-9a-f]{64}"), re.compile(r"[A-Za-z0-9.]+=[^\x00-\x1f\x7f]{1,200}")
 _TITLE: Final = re.compile(r"[^\x00-\x1f\x7f]{1,80}")
 
 
@@ -26,7 +29,9 @@ class Wrong(HpbError):
 
 @dataclass(frozen=True)
 class Config:
-    """The fields, read. Addresses are a host and a port. `public` is the token of the public's name, if results are kept."""
+    """The fields, read. Addresses are a host and a port. `public` is the token of the public's name, if results are kept. `clients` has those
+    who may vouch for certificates of clients, and `certificates` that of a name.
+    """
 
     tree: Tree
     title: str
@@ -41,6 +46,9 @@ class Config:
     public: str | None
     results: pathlib.Path | None
     drafts: pathlib.Path | None
+    codes: pathlib.Path | None = None
+    clients: str | None = None
+    certificates: Mapping[str, str] = field(default_factory=dict)
 
 
 def read_config(path: pathlib.Path) -> Config:
@@ -53,19 +61,22 @@ def read_config(path: pathlib.Path) -> Config:
         raise Wrong(f"{path}: {fault}") from None
     _look_at(fields)
     folder = path.resolve().parent
-    certificate, key, ca = (str(folder / fields[name]) if name in fields else None for name in ("certificate", "key", "ca"))
+    certificate, key, ca, clients = (str(folder / fields[name]) if name in fields else None for name in ("certificate", "key", "ca", "clients"))
     if (certificate is None) != (key is None):
         raise Wrong("certificate and key belong together")
+    if ("certificates" in fields) != (clients is not None) or (clients is not None and certificate is None):
+        raise Wrong("clients and certificates belong together, and need a certificate of the site itself")
     if ("public" in fields) != ("results" in fields):
         raise Wrong("public and results belong together")
     listen = _address(fields, "listen")
     if certificate is None and not fields.get("behind_proxy") and listen[0] not in ("127.0.0.1", "::1"):
         raise Wrong("listen: without a certificate the site is for this machine alone, or for a proxy of its own (behind_proxy)")
     public = _token(folder / fields["public"]) if "public" in fields else None
-    results, drafts = (folder / fields[name] if name in fields else None for name in ("results", "drafts"))
+    results, drafts, codes = (folder / fields[name] if name in fields else None for name in ("results", "drafts", "codes"))
     return Config(
         _tree(folder / fields["definition"]), fields.get("title", "Auction"), _address(fields, "front"), ca, fields.get("plain", False),
         listen, certificate, key, tuple(name.lower() for name in fields.get("names", [])), fields.get("behind_proxy", False), public, results, drafts,
+        codes, clients, _certificates(fields.get("certificates", {})),
     )
 
 
@@ -93,6 +104,18 @@ def _address(fields: Mapping[str, Any], name: str) -> tuple[str, int]:
     if not may_be_host(host) or not port.isdecimal() or int(port) > 65_535:
         raise Wrong(f"{name}: {fields[name]!r} is no HOST:PORT")
     return host, int(port)
+
+
+def _certificates(fields: Mapping[str, Any]) -> dict[str, str]:
+    """The certificate of each name: a SHA-256, with colons or without, or a subject."""
+    found = dict[str, str]()
+    for name, value in fields.items():
+        text = value if isinstance(value, str) else ""
+        digest = text.replace(":", "").lower()
+        if not NAME.fullmatch(name) or not (_DIGEST.fullmatch(digest) or _SUBJECT.fullmatch(text)):
+            raise Wrong(f"certificates: {name}: neither the SHA-256 of a certificate nor a subject, as CN=ann,O=Coast")
+        found[name] = digest if _DIGEST.fullmatch(digest) else text
+    return found
 
 
 def _token(path: pathlib.Path) -> str:

@@ -77,7 +77,7 @@ def desk_page(
     elif found.ends:
         parts.append(notice("Nobody has bid or waived in this round: a close now ends the auction.", "bad"))
     whole = section("The round", *parts, name="round")
-    told = [element("p", counts_say(found, len(tree.bidders))), prospects_table(bidders, "Bidders by urgency")] if found else []
+    told = [element("p", counts_say(found, len(bidders))), prospects_table(bidders, "Bidders by urgency")] if found else []
     beside = element("div", section("What to do", *actions(shown, schedule, token), name="actions"), _news(news))
     return [whole, element("div", section("Bidders", *told, name="bidders"), beside, class_="desk")]
 

@@ -8,6 +8,7 @@ from typing import Any, TypeAlias
 from hpb.lines import NodeShown, Shown, WhoShown
 from hpb.rounds import InformationShown, News, Previewed, Prospect, Schedule
 from hpb.rules.activity import activity_needed
+from hpb.rules.mock import MARK, is_mock
 from hpb.rules.tree import Tree
 from hpb.rules.writing import fields_of
 
@@ -16,11 +17,11 @@ Document: TypeAlias = dict[str, Any]
 ALL_SHOWN = InformationShown("running", "all", True, True)
 
 
-def auction_of(tree: Tree, shown: Shown, information: InformationShown = ALL_SHOWN, title: str = "", is_mock: bool = False) -> Document:
+def auction_of(tree: Tree, shown: Shown, information: InformationShown = ALL_SHOWN, title: str = "", of_mock: bool = False) -> Document:
     """The auction as it stands. `count` is that of the last close if `count_of` is `closes`."""
     return {
         "title": title,
-        "is_mock": is_mock,
+        "is_mock": of_mock,
         "round": shown.round,
         "stage": shown.stage,
         "percentage": tree.definition.stages[shown.stage - 1],
@@ -30,6 +31,11 @@ def auction_of(tree: Tree, shown: Shown, information: InformationShown = ALL_SHO
         "count_of": "now" if information.is_count_exact else "closes",
         "next_ticket": shown.next_ticket,
     }
+
+
+def bidders_of(tree: Tree) -> list[str]:
+    """All bidders but the one that marks a mock, for whom nobody bids."""
+    return [bidder for bidder in tree.bidders if bidder != MARK]
 
 
 def definition_of(tree: Tree) -> Document:
@@ -98,7 +104,7 @@ def sum_of(tree: Tree, bidder: str, won: Sequence[NodeShown]) -> Document:
 def round_of(tree: Tree, number: int, seen_at: str, shown: Shown, nodes: Mapping[str, NodeShown], information: InformationShown) -> Document:
     """A closed round: its results, and all nodes after its close."""
     results = results_of(tree, shown, nodes, information)
-    return {"round": number, "seen_at": seen_at, **results, "nodes": [node_of(tree, node) for node in nodes.values()]}
+    return {"round": number, "is_mock": is_mock(tree.definition), "seen_at": seen_at, **results, "nodes": [node_of(tree, node) for node in nodes.values()]}
 
 
 def schedule_of(schedule: Schedule) -> Document:

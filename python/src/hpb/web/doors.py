@@ -1,4 +1,6 @@
-"""Limits connections before a request is read: how many there may be, and how long the head of the first request may take."""
+"""Limits connections before a request is read: how many there may be, how long the head of the first request may take, how many requests may
+wait behind the one that is answered, and how long a reader may take nothing.
+"""
 import asyncio
 import collections
 from collections.abc import Callable
@@ -8,14 +10,19 @@ from typing import Final, cast
 MOST_CONNECTIONS, MOST_OF_ADDRESS = 1_024, 128
 # So many seconds a connection has to send the head of its first request.
 HEAD_SECONDS: Final = 10.0
+# A reader that takes nothing for so many seconds loses its connection.
+TAKE_SECONDS: Final = 20.0
+# So many requests may wait on one connection. It is looked at once in so many bytes.
+MOST_AHEAD: Final = 64
+_PIECE: Final = 2_048
 _END: Final = b"\r\n\r\n"
 
 
 class Doors:
     """Makes a protocol for each connection, and knows those that are there."""
 
-    def __init__(self, make: Callable[[], asyncio.Protocol], most_of_address: int = MOST_OF_ADDRESS, head_seconds: float = HEAD_SECONDS) -> None:
-        self.make, self.most_of_address, self.head_seconds = make, most_of_address, head_seconds
+    def __init__(self, make: Callable[[], asyncio.Protocol], most_of_address: int = MOST_OF_ADDRESS) -> None:
+        self.make, self.most_of_address, self.head_seconds, self.take_seconds = make, most_of_address, HEAD_SECONDS, TAKE_SECONDS
         self.inside: collections.Counter[str] = collections.Counter()
 
     def __call__(self) -> "Door":
@@ -40,6 +47,8 @@ class Door(asyncio.Protocol):
         self._address: str | None = None
         self._head = b""
         self._late: asyncio.TimerHandle | None = None
+        self._stuck: asyncio.TimerHandle | None = None
+        self._transport: asyncio.Transport | None = None
 
     def connection_made(self, transport: asyncio.BaseTransport) -> None:
         """For asyncio. If there is no room, the connection ends."""
@@ -48,7 +57,9 @@ class Door(asyncio.Protocol):
         if not self._doors.has_room(address):
             whole.abort()
             return
-        self._address = address
+        self._address, self._transport = address, whole
+        # So each answer that isn't taken at once is known by `pause_writing`.
+        whole.set_write_buffer_limits(high=0)
         self._doors.inside[address] += 1
         self._late = asyncio.get_running_loop().call_later(self._doors.head_seconds, whole.abort)
         self._behind.connection_made(transport)
@@ -62,7 +73,15 @@ class Door(asyncio.Protocol):
             if _END in self._head:
                 self._late.cancel()
                 self._late, self._head = None, b""
-        self._behind.data_received(data)
+        for place in range(0, len(data), _PIECE):
+            self._behind.data_received(data[place : place + _PIECE])
+            if self._waiting() > MOST_AHEAD and self._transport:
+                self._transport.abort()
+                return
+
+    def _waiting(self) -> int:
+        """How many requests wait: aiohttp has a list of them, which has no limit and no public name."""
+        return len(getattr(self._behind, "_messages"))
 
     def eof_received(self) -> bool | None:
         """For asyncio."""
@@ -72,17 +91,21 @@ class Door(asyncio.Protocol):
         """For asyncio."""
         if self._address is None:
             return
-        if self._late:
-            self._late.cancel()
+        for timer in (self._late, self._stuck):
+            if timer:
+                timer.cancel()
         self._doors.left(self._address)
         self._behind.connection_lost(fault)
 
     def pause_writing(self) -> None:
         """For asyncio."""
-        if self._address is not None:
+        if self._address is not None and self._transport:
+            self._stuck = asyncio.get_running_loop().call_later(self._doors.take_seconds, self._transport.abort)
             self._behind.pause_writing()
 
     def resume_writing(self) -> None:
         """For asyncio."""
         if self._address is not None:
+            if self._stuck:
+                self._stuck.cancel()
             self._behind.resume_writing()

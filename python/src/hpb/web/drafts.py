@@ -11,12 +11,15 @@ import os
 import pathlib
 from collections.abc import Iterable, Mapping
 from dataclasses import dataclass
-from typing import Any
+from typing import Any, Final
 
 from hpb.lines import Bid, Close, Command, Stage, Waive, format_line, parse_command_of_front
 from hpb.refusals import HpbError
 
 SENT, ACCEPTED, REFUSED, NEVER, UNCLEAR = "sent", "accepted", "refused", "never", "unclear"
+# So many drafts of a name that were refused, or never accepted, are known: the last ones. All others are known as long as the site.
+MOST_REFUSED: Final = 1_000
+
 
 class NotKept(HpbError):
     """The file of drafts can't be read or written."""
@@ -64,11 +67,13 @@ def read_draft(fields: Mapping[str, Any]) -> Draft:
 
 
 class Drafts:
-    """All drafts, with the last state of each. Of a sender and a ticket several may have been refused: the last one stands."""
+    """All drafts, with the last state of each. One is known by its name and its whole command: of several with the same ticket each has an
+    outcome of its own.
+    """
 
     def __init__(self, path: pathlib.Path | None = None) -> None:
         """Reads the file, which is made if there is none. If it can't be read, `NotKept` is raised. A last line that isn't whole is left out."""
-        self._known: dict[tuple[str, str | None, int], Draft] = {}
+        self._known: dict[tuple[str, Command], Draft] = {}
         self._file: int | None = None
         self._lock = asyncio.Lock()
         if path is None:
@@ -86,14 +91,24 @@ class Drafts:
             raise NotKept(f"{path} is no file of drafts: {fault}") from None
 
     def _take(self, draft: Draft) -> None:
-        self._known[draft.name, draft.bidder, draft.command.ticket] = draft
+        self._known.pop((draft.name, draft.command), None)
+        self._known[draft.name, draft.command] = draft
+        if draft.state in (REFUSED, NEVER):
+            refused = [key for key, one in self._known.items() if one.name == draft.name and one.state in (REFUSED, NEVER)]
+            for key in refused[:-MOST_REFUSED]:
+                del self._known[key]
 
-    def find(self, name: str, bidder: str | None, ticket: int) -> Draft | None:
-        """The last draft of a name with this ticket."""
-        return self._known.get((name, bidder, ticket))
+    def find(self, name: str, command: Command) -> Draft | None:
+        """The draft of a name with this command."""
+        return self._known.get((name, command))
+
+    def accepted(self, name: str, bidder: str | None, ticket: int) -> Draft | None:
+        """The accepted draft of a name with this ticket."""
+        found = (one for one in self.of(name) if (one.bidder, one.command.ticket, one.state) == (bidder, ticket, ACCEPTED))
+        return next(found, None)
 
     def of(self, name: str) -> list[Draft]:
-        """All drafts of a name, by sender and ticket."""
+        """All drafts of a name, by sender and ticket. Of one ticket they come in the order of their last change."""
         return sorted((one for one in self._known.values() if one.name == name), key=lambda one: (one.bidder or "", one.command.ticket))
 
     def bid_on(self, name: str, bidder: str, round_: int) -> frozenset[str]:
@@ -127,7 +142,6 @@ def _append(file: int, data: bytes) -> None:
     except OSError as fault:
         os.truncate(file, size)
         raise NotKept(f"the file of drafts can't be written: {fault.strerror}") from None
-
 
 
 

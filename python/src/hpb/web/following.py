@@ -14,6 +14,7 @@ from typing import Final
 
 from hpb.lines import Shown
 from hpb.rounds import InformationShown, News
+from hpb.rules.mock import is_mock
 from hpb.web import documents
 from hpb.web.links import Link
 from hpb.web.problems import Problem, problem
@@ -65,7 +66,7 @@ def events_between(link: Link, title: str, before: State | None, after: int, now
     """The events of a stream that knows a state, or none, and was sent all news up to number `after`."""
     events, count, known = list[Event](), now.shown.count, after
     if before is None or (before.shown, before.information) != (now.shown, now.information):
-        events.append(Event("auction", f"{count}-{after}", documents.auction_of(link.tree, now.shown, now.information, title, bool(link.client.is_mock()))))
+        events.append(Event("auction", f"{count}-{after}", documents.auction_of(link.tree, now.shown, now.information, title, is_mock(link.tree.definition) or bool(link.client.is_mock()))))
     for one in now.news:
         if one.number <= known:
             continue

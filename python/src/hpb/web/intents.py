@@ -86,8 +86,11 @@ def announcement_line(to: str, text: object) -> str:
     """The same, of a name and a text."""
     if not isinstance(text, str) or not text.strip() or _CONTROL.search(text) or "  " in text or text != text.strip():
         raise problem("request", "text: a text without control characters, with one space between two words")
-    # A line has bytes: each character beyond ASCII is as many of them as UTF-8 has.
-    line = f"SAY {to} {text}".encode().decode("latin-1")
+    # A line has bytes: each character beyond ASCII is as many of them as UTF-8 has. Half a pair of UTF-16 is no character.
+    try:
+        line = f"SAY {to} {text}".encode().decode("latin-1")
+    except UnicodeEncodeError:
+        raise problem("request", "text: half a character") from None
     if len(line) > MOST_LINE_BYTES:
         raise problem("request", f"text: the line would have {len(line)} bytes, and may have {MOST_LINE_BYTES}")
     return line

@@ -11,12 +11,14 @@ from hpb.lines import Accepted, Answer, NodeShown, Shown, WhoShown
 from hpb.refusals import FrontRefused, HpbError
 from hpb.rounds import Agreed, InformationShown, News, NoNews, Previewed, Prospect, ReadUpTo, Schedule
 from hpb.rules.tree import Tree
-from hpb.web.documents import ALL_SHOWN
+from hpb.web.documents import ALL_SHOWN, bidders_of
 from hpb.web.problems import problem, problem_of
 
 Told = TypeVar("Told", Accepted, Shown, NodeShown, WhoShown, Schedule, News, ReadUpTo, Agreed, Previewed, Prospect)
 # How many requests of one name may wait at a time.
 MOST_WAITING: Final = 64
+# For so many seconds a name's rights are known. A front may read its configuration again, and give it others.
+IDENTITY_SECONDS: Final = 30.0
 # So many news a front keeps.
 MOST_NEWS: Final = 200
 AUCTIONEER, BIDDER, OBSERVER = "auctioneer", "bidder", "observer"
@@ -71,6 +73,7 @@ class Link:
     def __init__(self, client: Asks, tree: Tree) -> None:
         self.client, self.tree, self.used = client, tree, time.monotonic()
         self._identity: Identity | None = None
+        self._asked = 0.0
         self._standing: Standing | None = None
         self._news: list[News] = []
         self._waiting = 0
@@ -98,12 +101,13 @@ class Link:
 
     async def identity(self) -> Identity:
         """The name, its kind and its bidders. The front has no line for that, so it is found by what the front refuses."""
-        if self._identity is None:
-            self._identity = await self._found()
+        now = time.monotonic()
+        if self._identity is None or now - self._asked > IDENTITY_SECONDS:
+            self._identity, self._asked = await self._found(), now
         return self._identity
 
     async def _found(self) -> Identity:
-        answers = await self.answers(*(f"WHO {bidder}" for bidder in self.tree.bidders))
+        answers = await self.answers(*(f"WHO {bidder}" for bidder in bidders_of(self.tree)))
         seen = tuple(answer.bidder for answer in answers if isinstance(answer, WhoShown))
         if not seen:
             return Identity(self.client.name(), OBSERVER, ())

@@ -44,6 +44,7 @@ class Kind:
 SITE: Final[Mapping[str, Kind]] = {
     "request": Kind(400, "the request isn't one of the interface", "compare it with /v1/openapi.json"),
     "token": Kind(401, "no token that the front knows", "send `Authorization: Bearer` and the token"),
+    "factor": Kind(401, "the name needs its second factor", "come with its certificate, or sign in on the pages with a code that wasn't used"),
     "nothing": Kind(404, "there is nothing at this path", "compare it with /v1/openapi.json"),
     "absent": Kind(404, "the site doesn't have the results of this round", "take them from the record"),
     "method": Kind(405, "this path has no such method", "compare it with /v1/openapi.json"),

@@ -6,17 +6,17 @@ from typing import Any, Final
 
 from hpb.limits import MOST_TICKET
 from hpb.lines import Accepted, Bid, Close, Command, NodeShown, Stage
-from hpb.rounds import Agreed, News, Previewed, Prospect, ReadUpTo, Schedule
+from hpb.rounds import MOCK, Agreed, News, Previewed, Prospect, ReadUpTo, Schedule
+from hpb.rules.mock import is_mock
 from hpb.rules.tree import Tree
 from hpb.web import documents
+from hpb.web.documents import bidders_of
 from hpb.web.intents import announcement_line_in, clock_line_in, command_in, line_of, number_in
 from hpb.web.links import Link
 from hpb.web.problems import problem
-from hpb.web.results import Results
+from hpb.web.results import NODE_COLUMNS, ROUND_COLUMNS, ROW_COLUMNS, Results, rows_of
 
-NODE_COLUMNS: Final = ("node", "parent", "units", "high", "bidder", "price", "minimum", "wins")
 BIDDER_COLUMNS: Final = ("bidder", "units", "eligibility", "activity", "needed", "short", "waivers", "next_ticket")
-ROUND_COLUMNS: Final = ("round", "seen_at", "is_over", "revenue")
 WINNER_COLUMNS: Final = ("node", "bidder", "amount")
 NEWS_COLUMNS: Final = ("number", "time", "text", "said")
 PROSPECT_COLUMNS: Final = ("bidder", "eligibility", "activity", "short", "waiver", "after")
@@ -48,6 +48,16 @@ class Site:
     title: str
     results: Results | None
 
+    @property
+    def is_mock(self) -> bool:
+        """Whether the definition is that of a mock."""
+        return is_mock(self.tree.definition)
+
+    @property
+    def heading(self) -> str:
+        """The title as each page has it."""
+        return f"{MOCK}: {self.title}" if self.is_mock else self.title
+
 
 Resource = Callable[[Site, Asked], Awaitable[Reply]]
 
@@ -55,7 +65,7 @@ Resource = Callable[[Site, Asked], Awaitable[Reply]]
 async def auction(site: Site, asked: Asked) -> Reply:
     """The auction as it stands."""
     shown, information = await asked.link.shown()
-    return Reply(documents.auction_of(site.tree, shown, information, site.title, bool(asked.link.client.is_mock())))
+    return Reply(documents.auction_of(site.tree, shown, information, site.title, site.is_mock or bool(asked.link.client.is_mock())))
 
 
 async def definition(site: Site, asked: Asked) -> Reply:
@@ -116,7 +126,7 @@ async def round_(site: Site, asked: Asked) -> Reply:
     found = site.results.round(int(part)) if site.results and part.isdecimal() and len(part) < 8 else None
     if found is None:
         raise problem("absent")
-    return Reply(found, found["nodes"], NODE_COLUMNS)
+    return Reply(found, rows_of(found), ROW_COLUMNS)
 
 
 async def results(site: Site, asked: Asked) -> Reply:
@@ -157,7 +167,7 @@ async def clock(site: Site, asked: Asked) -> Reply:
 async def preview(site: Site, asked: Asked) -> Reply:
     """What a close would do now, for the auctioneer."""
     found = await asked.link.one("PREVIEW", Previewed)
-    bidders = await asked.link.all([f"PREVIEW {bidder}" for bidder in site.tree.bidders], Prospect)
+    bidders = await asked.link.all([f"PREVIEW {bidder}" for bidder in bidders_of(site.tree)], Prospect)
     document = documents.preview_of(found, bidders)
     return Reply(document, document["bidders"], PROSPECT_COLUMNS)
 

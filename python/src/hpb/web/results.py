@@ -13,11 +13,15 @@ from typing import Any, Final
 from hpb.amounts import counted, money
 from hpb.markup import Markup, element
 from hpb.refusals import HpbError
+from hpb.rounds import MOCK, NOTICE
 from hpb.rules.tree import Tree
 from hpb.web.rendering import csv_of, json_of
 
 _ROUND: Final = re.compile(r"round-([1-9][0-9]{0,6})\.json")
-_NODE_COLUMNS: Final = ("node", "parent", "units", "high", "bidder", "price", "minimum", "wins")
+ROUND_COLUMNS: Final = ("round", "is_mock", "seen_at", "is_over", "revenue")
+NODE_COLUMNS: Final = ("node", "parent", "units", "high", "bidder", "price", "minimum", "wins")
+# Of the nodes of a round as a list.
+ROW_COLUMNS: Final = (*NODE_COLUMNS, "is_mock")
 _ATOM: Final = "http://www.w3.org/2005/Atom"
 
 
@@ -42,7 +46,8 @@ class Results:
         try:
             found: dict[str, Any] = json.loads(path.read_bytes())
             names = [node["node"] for node in found["nodes"]]
-        except (ValueError, KeyError, TypeError):
+            assert type(found["is_mock"]) is bool
+        except (ValueError, KeyError, TypeError, AssertionError):
             raise NotKept(f"{path} has no results of a round") from None
         if names != list(self._tree.nodes):
             raise NotKept(f"{path} has the results of another auction: give this one a folder of its own")
@@ -85,10 +90,10 @@ def _write(path: pathlib.Path, data: bytes) -> None:
 
 def files_of(title: str, number: int, document: Mapping[str, Any], rounds: list[dict[str, Any]]) -> dict[str, bytes]:
     """The files that change with the close of a round, by name."""
-    rows = [{column: one[column] for column in ("round", "seen_at", "is_over", "revenue")} for one in rounds]
+    rows = [{column: one[column] for column in ROUND_COLUMNS} for one in rounds]
     return {
         f"round-{number}.json": json_of(document),
-        f"round-{number}.csv": csv_of(document["nodes"], _NODE_COLUMNS),
+        f"round-{number}.csv": csv_of(rows_of(document), ROW_COLUMNS),
         f"round-{number}.html": round_page(title, document),
         "rounds.json": json_of({"rounds": rows}),
         "index.html": index_page(title, rounds),
@@ -96,10 +101,16 @@ def files_of(title: str, number: int, document: Mapping[str, Any], rounds: list[
     }
 
 
+def rows_of(document: Mapping[str, Any]) -> list[dict[str, Any]]:
+    """The nodes of a round, as rows of a list."""
+    return [{**node, "is_mock": document["is_mock"]} for node in document["nodes"]]
+
+
 def says(document: Mapping[str, Any]) -> str:
     """A closed round in a sentence."""
     revenue = document["revenue"]
     told = f"Round {document['round']} is closed" + ("." if revenue is None else f", with a revenue of {money(revenue)} dollars.")
+    told = f"{NOTICE} {told}" if document["is_mock"] else told
     return f"{told} The auction is over." if document["is_over"] else told
 
 
@@ -138,7 +149,7 @@ def feed_of(title: str, rounds: list[dict[str, Any]]) -> bytes:
         element(
             "entry",
             element("id", f"urn:hpb:{one['seen_at']}:{one['round']}"),
-            element("title", f"Round {one['round']}"),
+            element("title", f"{f'{MOCK}: ' if one['is_mock'] else ''}Round {one['round']}"),
             element("updated", one["seen_at"]),
             element("summary", says(one)),
             element("content", type="text/html", src=f"round-{one['round']}.html"),

@@ -28,11 +28,11 @@ class Sender:
 
     def __init__(self, drafts: Drafts) -> None:
         self.drafts = drafts
-        self._tasks: dict[tuple[str, str | None, int], asyncio.Task[None]] = {}
+        self._tasks: dict[tuple[str, Command], asyncio.Task[None]] = {}
 
     def is_under_way(self, draft: Draft) -> bool:
         """Whether a draft waits for its answer, or for its turn."""
-        return _key(draft.name, draft.command) in self._tasks
+        return (draft.name, draft.command) in self._tasks
 
     async def send(self, name: str, link: Link, commands: Sequence[Command], seconds: float) -> None:
         """Sends commands with their tickets in their order, and waits at most so many seconds. A command that is under way, or was accepted
@@ -41,17 +41,15 @@ class Sender:
         new = [one for one in commands if not self._is_known(name, one)]
         if new:
             task = asyncio.create_task(self._run(name, link, new))
-            self._tasks |= {_key(name, one): task for one in new}
+            self._tasks |= {(name, one): task for one in new}
             task.add_done_callback(lambda _: self._forget(task))
-        waiting = {self._tasks[key] for one in commands if (key := _key(name, one)) in self._tasks}
+        waiting = {self._tasks[name, one] for one in commands if (name, one) in self._tasks}
         if waiting:
             await asyncio.wait(waiting, timeout=seconds)
 
     def _is_known(self, name: str, command: Command) -> bool:
-        if _key(name, command) in self._tasks:
-            return True
-        found = self.drafts.find(*_key(name, command))
-        return found is not None and found.state == ACCEPTED and found.command == command
+        found = self.drafts.find(name, command)
+        return (name, command) in self._tasks or (found is not None and found.state == ACCEPTED)
 
     def _forget(self, task: asyncio.Task[None]) -> None:
         self._tasks = {key: one for key, one in self._tasks.items() if one is not task}
@@ -121,7 +119,3 @@ class Sender:
 def _says(fault: Problem) -> str:
     number = f"{fault.number} " if fault.number is not None else ""
     return f"{number}{fault.word}: {fault.detail or fault.meaning}"
-
-
-def _key(name: str, command: Command) -> tuple[str, str | None, int]:
-    return name, Draft(name, command).bidder, command.ticket

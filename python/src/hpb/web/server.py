@@ -1,5 +1,7 @@
 """The site as a server: its parts together, its sockets, and its end."""
 import asyncio
+import dataclasses
+import resource
 import ssl
 from collections.abc import Callable
 from typing import Final, cast
@@ -12,6 +14,7 @@ from hpb.web.api import Api
 from hpb.web.config import Config, Wrong
 from hpb.web.doors import HEAD_SECONDS, MOST_CONNECTIONS, Doors
 from hpb.web.drafts import Drafts
+from hpb.web.factors import Codes, Factors
 from hpb.web.keeping import Keeper
 from hpb.web.links import client_of
 from hpb.web.names import Names
@@ -20,7 +23,7 @@ from hpb.web.pages import Pages
 from hpb.web.resources import Site
 from hpb.web.results import Results
 from hpb.web.sending import Sender
-from hpb.web.walls import MOST_BODY, guarded
+from hpb.web.walls import MOST_BODY, Way, guarded
 
 # How long a call of the front may take, and how long requests may go on at the end, in seconds.
 FRONT_SECONDS, END_SECONDS = 20.0, 3.0
@@ -38,33 +41,55 @@ def is_secure(config: Config) -> bool:
     return config.certificate is not None or config.behind_proxy
 
 
+def factors_of(config: Config) -> Factors:
+    """The second factors of the configuration. If they can't be used, `NotUsable` is raised."""
+    return Factors(Codes(config.codes) if config.codes else None, config.certificates)
+
+
+def site_of(config: Config) -> Site:
+    """What all requests share."""
+    site = Site(config.tree, config.title, None)
+    return dataclasses.replace(site, results=Results(config.results, config.tree, site.heading)) if config.results else site
+
+
 def application_of(config: Config, site: Site, names: Names, sender: Sender, notes: Notes) -> web.Application:
     """The application with all its routes."""
-    application = web.Application(middlewares=[guarded(config.names, is_secure(config), notes)], client_max_size=MOST_BODY)
-    Api(site, names, is_secure(config), config.behind_proxy).add_to(application)
-    pages = Pages(site, names, sender, notes, is_secure(config), config.behind_proxy)
+    application = web.Application(middlewares=[guarded(config.names, is_secure(config), notes, site.heading)], client_max_size=MOST_BODY)
+    way = Way(is_secure(config), config.behind_proxy)
+    factors = factors_of(config)
+    Api(site, names, factors, way).add_to(application)
+    pages = Pages(site, names, factors, sender, notes, way)
     pages.add_to(application)
     Acting(pages).add_to(application)
     return application
 
 
+def allow_descriptors() -> None:
+    """As many descriptors as connections, and as many more for those that aren't counted yet, as far as the system allows."""
+    soft, hard = resource.getrlimit(resource.RLIMIT_NOFILE)
+    wanted = 2 * MOST_CONNECTIONS + 256
+    if soft != resource.RLIM_INFINITY and soft < wanted:
+        resource.setrlimit(resource.RLIMIT_NOFILE, (wanted if hard == resource.RLIM_INFINITY else min(wanted, hard), hard))
+
+
 async def serve(config: Config, notes: Notes, say: Callable[[str], None], until: asyncio.Event) -> None:
     """Serves until the event. `say` gets the site's address once it can be reached. If it can't be served, `Wrong` is raised."""
-    results = Results(config.results, config.tree, config.title) if config.results else None
+    site = site_of(config)
     names, sender = Names(config.tree, connects(config), notes), Sender(Drafts(config.drafts))
-    site = Site(config.tree, config.title, results)
     runner = web.AppRunner(
         application_of(config, site, names, sender, notes), handle_signals=False, access_log=None, max_line_size=MOST_LINE, max_field_size=MOST_LINE,
+        auto_decompress=False,
     )
     await runner.setup()
     tasks = list[asyncio.Task[None]]()
     server: asyncio.Server | None = None
     try:
+        allow_descriptors()
         server, address = await _listening(runner, config)
         say(address)
-        if results and config.public:
+        if site.results and config.public:
             public = config.public
-            tasks.append(asyncio.create_task(Keeper(lambda: names.link_of(public, ""), results, notes).run()))
+            tasks.append(asyncio.create_task(Keeper(lambda: names.link_of(public, ""), site.results, notes).run()))
         await until.wait()
     finally:
         if server:
@@ -99,4 +124,8 @@ def _context(config: Config) -> ssl.SSLContext | None:
     context = ssl.create_default_context(ssl.Purpose.CLIENT_AUTH)
     context.minimum_version = ssl.TLSVersion.TLSv1_2
     context.load_cert_chain(config.certificate, config.key)
+    if config.clients:
+        # Who has no certificate may come, too: only some names need one.
+        context.verify_mode = ssl.CERT_OPTIONAL
+        context.load_verify_locations(config.clients)
     return context

@@ -3,12 +3,14 @@ import asyncio
 import ipaddress
 from collections.abc import AsyncIterator, Awaitable, Callable, Collection
 from contextlib import asynccontextmanager
+from dataclasses import dataclass
 from typing import Final, TypeAlias
 
-from aiohttp import web
+from aiohttp import hdrs, web
 
 from hpb.markup import Markup, element, joined
 from hpb.pages.requests import is_own
+from hpb.web.factors import Certificate
 from hpb.web.html import notice, page
 from hpb.web.notes import Notes
 from hpb.web.problems import Problem, problem
@@ -35,16 +37,30 @@ HEADERS: Final = {
 HSTS: Final = {"Strict-Transport-Security": "max-age=31536000"}
 
 
+@dataclass(frozen=True)
+class Way:
+    """How browsers reach the site: by TLS or not, and through a proxy or not."""
+
+    is_secure: bool
+    behind_proxy: bool
+
+
+def certificate_of(request: web.Request) -> Certificate | None:
+    """The certificate of a request's connection, if one came and is trusted."""
+    found = request.get_extra_info("ssl_object")
+    return Certificate.of(found.getpeercert(True), found.getpeercert() or {}) if found else None
+
+
 def address_of(request: web.Request, behind_proxy: bool) -> str:
     """The address that a request comes from. Behind a proxy it is the last one that the proxy names."""
-    named = request.headers.get("X-Forwarded-For", "").rpartition(",")[2].strip() if behind_proxy else ""
+    named = ",".join(request.headers.getall("X-Forwarded-For", [])).rpartition(",")[2].strip() if behind_proxy else ""
     try:
         return str(ipaddress.ip_address(named))
     except ValueError:
         return request.remote or ""
 
 
-def guarded(names: Collection[str], is_secure: bool, notes: Notes) -> Callable[[web.Request, Handler], Awaitable[web.StreamResponse]]:
+def guarded(names: Collection[str], is_secure: bool, notes: Notes, title: str) -> Callable[[web.Request, Handler], Awaitable[web.StreamResponse]]:
     """A middleware: looks at each request, turns a `Problem` into an answer, and adds the fields of each answer."""
     hosts = {"localhost", *names}
 
@@ -54,14 +70,14 @@ def guarded(names: Collection[str], is_secure: bool, notes: Notes) -> Callable[[
             look(request, hosts)
             response = await handler(request)
         except Problem as fault:
-            response = problem_response(request, fault)
+            response = problem_response(request, fault, title)
         except web.HTTPException as fault:
-            response = problem_response(request, _of_http(fault))
+            response = problem_response(request, _of_http(fault), title)
         except (ConnectionError, TimeoutError):
             raise
         except Exception as fault:  # A fault of ours is answered and noted: the site goes on.
             notes.note("fault", path=request.path, why=repr(fault))
-            response = problem_response(request, problem("fault"))
+            response = problem_response(request, problem("fault"), title)
         if not response.prepared:
             add_headers(response, is_secure)
         return response
@@ -76,11 +92,17 @@ def add_headers(response: web.StreamResponse, is_secure: bool) -> None:
 
 
 def look(request: web.Request, hosts: Collection[str]) -> None:
-    """A request for another host is refused, and so is a body whose length isn't given, or is too long, before it is read."""
+    """A request for another host is refused, and so is a body whose length isn't given, or is too long, before it is read. A body comes as it
+    is, without a coding, and no connection becomes one of another protocol.
+    """
     if len(request.headers.getall("Host", [])) != 1 or not is_own(request.headers["Host"], hosts):
         raise problem("host")
     if request.headers.getall("Transfer-Encoding", []) or (request.method == "POST" and len(request.headers.getall("Content-Length", [])) != 1):
         raise problem("length")
+    if request.headers.getall("Content-Encoding", []):
+        raise problem("type", "a body has no coding here")
+    if request.method == hdrs.METH_CONNECT or "websocket" in ",".join(request.headers.getall("Upgrade", [])).lower():
+        raise problem("method", "there is no other protocol here")
     if (request.content_length or 0) > MOST_BODY:
         raise problem("large")
 
@@ -106,14 +128,14 @@ def _of_http(fault: web.HTTPException) -> Problem:
     return found
 
 
-def problem_response(request: web.Request, fault: Problem) -> web.Response:
+def problem_response(request: web.Request, fault: Problem, title: str) -> web.Response:
     """A problem as JSON, or as a page. If not all of the request was read, the connection ends: nothing behind it is taken for a request."""
     if request.path.startswith(API):
         response = web.Response(status=fault.status, body=json_of(fault.document()), content_type=PROBLEM, headers=fault.headers)
     else:
-        data = page("Auction", f"{fault.status} {fault.word}", [problem_says(fault)])
+        data = page(title, f"{fault.status} {fault.word}", [problem_says(fault)])
         response = web.Response(status=fault.status, body=data, content_type="text/html", charset="utf-8", headers=fault.headers)
-    if request.can_read_body or fault.word in ("length", "large", "host", "late"):
+    if request.can_read_body or fault.word in ("length", "large", "host", "late", "type", "method"):
         response.force_close()
     return response
 
