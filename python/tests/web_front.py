@@ -38,6 +38,7 @@ class Front:
         self.tree = tree_of(self.definition)
         self.auction = begin(self.definition)
         self.information, self.veil = information, Veil()
+        self.began = self.auction, self.veil
         self.schedule = Schedule(1, "none", None, None, 0, NOW)
         self.news: list[News] = []
         self.read: dict[str, int] = {}

@@ -33,6 +33,8 @@ HEADERS: Final = {
     "Cross-Origin-Resource-Policy": "same-origin",
     "Cross-Origin-Opener-Policy": "same-origin",
     "Cache-Control": "no-store",
+    # Nobody needs to know which program it is made of.
+    "Server": "hpb",
 }
 HSTS: Final = {"Strict-Transport-Security": "max-age=31536000"}
 
