@@ -22,7 +22,7 @@ _REPORT: Final = Box(554, 532, 230, 62)
 
 def drawn() -> str:
     """The drawing."""
-    canvas = Canvas("owners", "Front, server, page, record and report: who owns what", (
+    canvas = Canvas("owners", "Front, server, page, record and report, with the owner of each file", (
         "Clients connect to the front by TLS and a token. The front alone reads the tokens and writes the record and the log. It puts a command "
         "beside the record, tells it to hpb serve, which alone writes the auction's file, then writes the record, then answers. Browsers get a "
         "page of a process that the front starts; it asks the server and writes nothing. Front, server and page are in a network of their own. "
@@ -48,7 +48,7 @@ def _processes(canvas: Canvas) -> None:
 
 def _files(canvas: Canvas) -> None:
     canvas.card(_TOKENS, "tokens, certificate, key", "the front reads them", "kept")
-    canvas.card(_RECORD, "auction.record", "who sent what: segments, and places beside it for what is on its way", "kept")
+    canvas.card(_RECORD, "auction.record", "each command and its sender; beside it those that are on their way", "kept")
     canvas.card(_LOG, "auction.record.log", "the front's, bounded, proves nothing", "kept")
     canvas.card(_AUCTION, "auction.hpb", "the server's, under its lock: the auction itself, but not who sent what", "kept")
 
