@@ -111,7 +111,7 @@ def main():
     words.add_argument("--names", type=int, nargs="+", default=[1, 8, MOST_NAMES], help="1 to 32 each (default 1 8 32)")
     words.add_argument("--commands", type=int, default=2_000, help="of each run, 8,000 at most (default 2,000)")
     words.add_argument("--runs", type=int, default=3, help="of each; the median is shown (default 3)")
-    words.add_argument("--folder", default="/dev/shm", help="where the data are (default /dev/shm)")
+    words.add_argument("--folder", default="/dev/shm", help="the folder of the data (default /dev/shm)")
     given = words.parse_args()
     checkouts = [HERE, *([given.beside.resolve()] if given.beside else [])]
     for count in given.names:

@@ -330,7 +330,7 @@ def add_options(words):
     words.add_argument("--runs", type=int, default=5, help="of each; the median is shown (default 5)")
     words.add_argument("--seconds", type=float, default=3, help="how long a run is counted (default 3)")
     words.add_argument("--warm", type=float, default=0.5, help="how long it runs before (default 0.5)")
-    words.add_argument("--folder", default=".", help="where the data are (default: the current one)")
+    words.add_argument("--folder", default=".", help="the folder of the data (default: the current one)")
     words.add_argument("--journal", type=int, default=1_024, help="frames of the journal (default 1024)")
     add_layouts(words, both=False)
     words.add_argument("--levels", type=int, default=7, help="of the auction's nodes (default 7: 127 nodes)")

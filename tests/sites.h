@@ -1,5 +1,5 @@
-/* Call sites of a program of Python 3.11, for `faults.c`: a call is known by its kind, by its thread, by the functions of C from it up to the
- * interpreter, and by the Python frames from there up to the package's own code. So the same call is the same site each time it is made, and
+/* Call sites of a program of Python 3.11, for `faults.c`. A call is known by its kind, its thread and its callers. These are the functions of C
+ * up to the interpreter, and from there the Python frames up to the package's own code. So the same call is the same site each time it is made, and
  * in each process. A thread is known by the places of the package that led to its start.
  *
  *   FAULT_SITES  A file with a `struct sweep`, made beforehand, which the tests share with processes while they run. Each process has a lane

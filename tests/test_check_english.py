@@ -21,7 +21,7 @@ def found(text: str) -> list[tuple[int, str]]:
 
 def run(*pages: Path) -> tuple[str, int]:
     """The output of the check for some pages, and its status."""
-    ran = subprocess.run([CHECK, *pages], stdout=subprocess.PIPE, text=True, timeout=20, check=False)
+    ran = subprocess.run([CHECK, *pages], stdout=subprocess.PIPE, text=True, timeout=60, check=False)
     return ran.stdout, ran.returncode
 
 
@@ -111,10 +111,15 @@ def test_a_page_above_its_bound_is_refused(tmp_path: Path) -> None:
         ("a.py", '"""It says\nwhere.\n\n    where\n"""\na = "where"  # what is\n# told\n', ["1: where", "6: what is"]),
         ("a.py", 'def f() -> None:\n    """Plain.\n\n    It is told.\n\n        where\n    """\n    # It is\n    # told.\n', ["4: is told", "8: is told"]),
         ("a", '#!/usr/bin/env python3\n"""Where."""\n', ["2: where"]),
+        ("a.py", 'f("It keeps\\n"\n  "what is there.")\ng("where it", "WHO x is 4")\n', ["1: what is"]),
+        ("a.py", 'def f(x: str) -> str:\n    return f"{x} is told {x:>{9}}" + "p { where: it is }" + r"\\bwhere it \\w"\n', ["2: is told"]),
+        ("tests/a.py", 'f("It keeps what is there.")\n', []),
+        ("a.css", "/* Where it is. */\np { margin: 0 }\n", ["1: where"]),
     ],
 )
-def test_the_comments_of_a_source_are_read(tmp_path: Path, name: str, source: str, places: list[str]) -> None:
+def test_the_comments_and_messages_of_a_source_are_read(tmp_path: Path, name: str, source: str, places: list[str]) -> None:
     path = tmp_path / name
+    path.parent.mkdir(exist_ok=True)
     path.write_text(source, encoding="utf-8")
     lines = run(path)[0].splitlines()
     assert [":".join(line.removeprefix(f"{path}:").split(":")[:2]) for line in lines[:-1]] == places

@@ -99,7 +99,7 @@ def test_a_front_that_isnt_watched_says_nothing_of_that(front: Front, manager: M
 
 def test_a_manager_that_cant_be_told_is_reported_and_the_front_goes_on(front: Front, room: Path) -> None:
     front.start(conditions=Conditions(environment={"NOTIFY_SOCKET": str(room / "nobody")}))
-    front.wait_until_said("front: the service manager can't be told that the front is ready: No such file or directory\n")
+    front.wait_until_said("front: the front can't tell the service manager that it is ready: No such file or directory\n")
     assert front.stop().status == 0
 
 

@@ -23,7 +23,7 @@ from hpb.record.segments import segment_paths, write_segment
 AT = "2026-11-30T12:00:00.000000Z"
 SMALL_SEGMENT = 2_000
 DEFINITION = {"step": 10}
-IN_THE_WAY = "R.2 stands where a segment of the record belongs, and isn't it"
+IN_THE_WAY = "R.2 has the name of a segment of the record, and isn't it"
 
 
 def written(path: Path, bids: int, most: int = SMALL_SEGMENT) -> RecordFile:

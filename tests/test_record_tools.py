@@ -159,7 +159,7 @@ def test_client_reads_no_longer_answer_than_there_is(answer: bytes, is_taken: bo
             taken.sendall(answer)
         written, said = client.communicate(timeout=20)
     port = listener.getsockname()[1]
-    told = f"client: what is at 127.0.0.1, port {port}, is no auction: its answer has more than 104 bytes\n"
+    told = f"client: no auction answers at 127.0.0.1, port {port}: the answer has more than 104 bytes\n"
     assert (written, said.decode(), client.returncode) == ((answer, "", 0) if is_taken else (b"", told, 1))
 
 

@@ -20,7 +20,7 @@ from manual.help import Help, read_help
 TOP = Path(__file__).resolve().parents[2]
 # So wide that argparse breaks no line.
 WIDE = "1000"
-# Where the packages have the pages of docs/.
+# The folder of the packages with the pages of docs/.
 PAGES = "/usr/share/doc/hpb/docs"
 # The sections of docs/ that describe a front's configuration.
 OF_CONFIGURATION = [
@@ -41,7 +41,7 @@ def asked(words: list[str]) -> str:
 
 
 def with_names(text: str) -> str:
-    """A text with the names of commands and pages where the packages have them."""
+    """A text with the names that commands and pages have in the packages."""
     text = re.sub(r"\btools/([a-z]+)", r"hpb-\1", text)
     return re.sub(r"\bdocs/([A-Z-]+\.md)", rf"{PAGES}/\1", text)
 

@@ -1,4 +1,4 @@
-"""Completions for bash, zsh and fish: the commands and options of each program, and files where a file belongs."""
+"""Completions for bash, zsh and fish: the commands and options of each program, and files as words that name a file."""
 from collections.abc import Iterable, Iterator
 
 from manual.help import HELP, Help, Row

@@ -119,7 +119,7 @@ def page(name: str, section: int, about: str, date: str, version: str, sections:
 
 
 def tidy(lines: list[str]) -> Iterator[str]:
-    """Leaves out paragraphs that begin where one begins anyway, or that have nothing in them."""
+    """Leaves out the beginning of a paragraph if one begins anyway, or if the paragraph has no text."""
     for line, after in zip(lines, [*lines[1:], ".Sh"]):
         if line == ".Pp" and after.startswith((".Sh", ".Ss", ".Bd", ".Bl", ".Pp")):
             continue

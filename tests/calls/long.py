@@ -57,7 +57,7 @@ def main() -> bool:
     words.add_argument("--seed", type=int, default=2, help="of the stories (default 2)")
     words.add_argument("--story", type=int, help="the number of one story, to be told alone")
     words.add_argument("--jobs", type=int, default=2, help="stories at a time (default 2)")
-    words.add_argument("--folder", type=Path, default=Path("/dev/shm"), help="where the files are made (default /dev/shm)")
+    words.add_argument("--folder", type=Path, default=Path("/dev/shm"), help="the folder in which files are made (default /dev/shm)")
     words.add_argument("--layout", type=int, nargs="+", choices=[1, 2], default=[1, 2], help="of the journal: 1 pages, 2 cells (default both)")
     given = words.parse_args()
     layouts = [Layout(number) for number in given.layout]

@@ -77,7 +77,7 @@ class Client:
         self.socket.sendall(line)
         answer = self.stream.readline(self.most)
         if len(answer) == self.most and not answer.endswith(b"\n"):
-            raise GivesUp(f"what is at {self.place[0]}, port {self.place[1]}, is no auction: its answer has more than {self.most - 1} bytes")
+            raise GivesUp(f"no auction answers at {self.place[0]}, port {self.place[1]}: the answer has more than {self.most - 1} bytes")
         if answer == TAKEN_AWAY + b"\n":
             raise GivesUp(f"the token isn't known any more ({TAKEN_AWAY.decode()}): if the last line is a command, it may be accepted or not")
         if not answer.endswith(b"\n") or answer[:-1] in ENDS:

@@ -39,7 +39,7 @@ class Manager:
             self.letters.sendto(word.encode(), f"\0{self.address[1:]}" if self.address.startswith(ABSTRACT) else self.address)
         except OSError as fault:
             if word == READY:
-                self.warn(f"the service manager can't be told that the front is ready: {fault.strerror or fault}")
+                self.warn(f"the front can't tell the service manager that it is ready: {fault.strerror or fault}")
 
     def tell_alive(self) -> None:
         """Tells that the front is alive, if the manager waits for that and it is time. The front's loop calls it again and again."""

@@ -126,7 +126,7 @@ def read_words(text: str, name: str) -> argparse.Namespace:
     words.add_argument("--set-aside", action="store_true", help="go on if the record is damaged and has no backup; all from there on is set aside, and the audit ends there")
     commands = words.add_subparsers(dest="command", metavar="tokens", help="change the file of tokens; SIGHUP makes a front read it")
     tokens = commands.add_parser("tokens", help="add, revoke or list tokens").add_subparsers(dest="what", required=True)
-    tokens.add_parser("add", help="a new token, which is shown this once").add_argument("name", help="whose it is")
+    tokens.add_parser("add", help="a new token, which is shown this once").add_argument("name", help="its name")
     tokens.add_parser("revoke", help="a token is nobody's any more").add_argument("id", help="as `tokens list` shows it")
     tokens.add_parser("list", help="the name and the id of each token")
     given = words.parse_args()

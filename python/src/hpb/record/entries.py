@@ -39,7 +39,7 @@ class InTheWay(WrongSegment):
     """Another file has the name of a segment."""
 
     def __init__(self, name: str) -> None:
-        super().__init__(f"{name} stands where a segment of the record belongs, and isn't it")
+        super().__init__(f"{name} has the name of a segment of the record, and isn't it")
 
 
 class InUse(Exception):

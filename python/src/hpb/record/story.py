@@ -60,7 +60,7 @@ class Story:
     def _accepted(self, entry: Entry) -> None:
         command = Command(len(self.commands) + 1, entry["at"], entry["name"], entry["line"])
         if entry["answer"] != f"OK {command.number}":
-            self.faults.append(f"entry {entry['entry']}: {entry['answer']} stands where command {command.number} should")
+            self.faults.append(f"entry {entry['entry']}: {entry['answer']} stands in the place of command {command.number}")
         if not self._was_asked(entry, command):
             self.faults.append(f"entry {entry['entry']}: it answers no entry that asked this")
         role = self._roles.get(command.name)

@@ -135,7 +135,7 @@ A stamp says that a seal was there at its time. Its key is the authority's, so t
 
 The record of this auction begins with the entry whose hash is `{checked.chain.first}`. It has {auction.count} accepted commands, and
 {len(seals)} seals are signed by the key `{seals[0][0].seal.key if seals else 'none'}`. Compare that key with the one that was announced before
-the auction, in another place than this bundle: who made the bundle may have made the key.
+the auction, in another place than this bundle: the maker of the bundle may have made the key, too.
 
 | Round | Seal | Made at | Stamped by | Commands | Revenue |
 |---|---|---|---|---|---|
@@ -179,7 +179,7 @@ show that there weren't: each is compared with the record. Entries behind the la
 
 ## The files
 
-- `auction.record`, ..: who bid what and when, in order. `auction.hpb`: the file of the auction. `definition.json`: its definition.
+- `auction.record`, ..: each bid with its name and time, in order. `auction.hpb`: the file of the auction. `definition.json`: its definition.
 - `seals.txt`: the seals, one a line. `key.txt`, `key.pem`: the public key. `stamps/`: the stamps of the seals.
 {receipts}- `rounds/`: winners, prices and sums of each round. `results.txt`: the answers after each close. `report.html`: the end, with all sums.
 - `hpb-verify.pyz`, `verify.mjs`, `vectors.json`: two checkers, and trials for another one.

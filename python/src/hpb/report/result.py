@@ -74,8 +74,8 @@ def certificate_section(report: Report) -> Markup:
         ("The high bids", "None is above its node's price:", _bids_and_prices(nodes)),
     ]
     told = (
-        "Anyone can check the result with pencil and paper, from the definition and the high bids: no other choice of these bids that "
-        "sells each licence at most once brings more than the revenue. For that, four things have to hold."
+        "Anyone can check the result with pencil and paper, from the definition and the high bids. If four things hold, no other choice "
+        "of these bids that sells each licence at most once brings more than the revenue."
     )
     why = (
         "So take any other choice of these bids. Each bid is at most its node's price, which is the sum of the prices of the licences that "

@@ -17,7 +17,7 @@ def round_page(tree: Tree, signed: SignedSeal, entry: Entry, stamped_at: str = "
     """The page of the round that a seal closes, from the answers in the seal's entry."""
     report = Report(b"", tree, read_told(tree, entry["answers"]), None)
     seal = signed.seal
-    title = f"Round {money(seal.round)}: who wins, and the sums that prove it"
+    title = f"Round {money(seal.round)}: the winners, and sums that prove them the best choice"
     faults = [notice(strong("Not right: "), fault, ".", is_fault=True) for fault in report.faults]
     return document(title, [
         *faults, _in_short(report), result_section(report), certificate_section(report), nodes_section(report), found_again_section(report),
@@ -29,8 +29,8 @@ def _in_short(report: Report) -> Markup:
     shown = report.told.shown
     revenue, over = money(shown.revenue), "The auction is over." if shown.is_over else "The auction went on."
     told = (
-        f"The winners of this round pay {revenue} dollars together. Nobody could have chosen other bids, each licence sold once at most, that bring "
-        f"more: the prices of all licences are {revenue} dollars together, too, and no bid is above the prices of its licences. "
+        f"The winners of this round pay {revenue} dollars together. No other choice of bids that sells each licence once at most brings more. "
+        f"For the prices of all licences are {revenue} dollars together, too, and no bid is above the prices of its licences. "
         f"The four sums below show that; add them up. {over}"
     )
     return paragraph(told)
