@@ -26,7 +26,7 @@ EXAMPLES: dict[str, str] = {
         NODE a = HIGH 100 x PRICE 100 MIN 110 WIN yes; WHO w = ELIGIBILITY 25 ACTIVITY 20 TICKET 1; STAGE 2 = OK 4
         SHOW = ROUND 2 STAGE 2 OPEN REVENUE 200 COUNT 4; BID w 2 c 110 = OK 5; CLOSE 3 = OK 6; WHO w = ELIGIBILITY 21 ACTIVITY 20 TICKET 2
         CLOSE 4 = OK 7; SHOW = ROUND 3 STAGE 2 CLOSED REVENUE 210 COUNT 7; CLOSE 5 = 20""",
-    """Words are separated .. A line ends with .. The words at the .. Anything else is .. `hpb` reads such ..""": (
+    """Words are separated .. A line ends with .. The words at the .. Anything else gets .. `hpb` reads such ..""": (
         same(TEN, "SHOW  ", "", "BID x 1  a 100", "BID x 1 a  100", "BID\tx\t1\ta\t100", "BIDx1a100", " SHOW", "SHOW ", "NODE ", "WHO", "SHOW a")
         + "; " + same(TEN, "BID x 1 a 100 100", "BID x 1 a", "WAIVE x", "WAIVE x 1 1", "WAIVE 1", "WAIVE x 1 ", "CLOSE", "NODE a b", "END")
         + "; " + same(TEN, "bid x 1 a 100", "Bid x 1 a 100", "waive x 1", "Waive x 1", "close 1", "STAGe 1", "show", "Node a", "wHO x")
