@@ -78,7 +78,12 @@ ELSEWHERE: dict[str, str] = {
         def test_notices_that_find_no_room_are_counted_and_told(; def test_a_connection_that_breaks_is_told_with_its_fault(""",
     """one could not be ..""": "a connection could not be accepted, and its session has ended:",
     """a thread was refused ..""": "a thread was refused (ulimit -u tells how many there may be): sessions that have one are served to their end,",
+    """If somebody else .. `run` looks for ..""": (
+        "def test_it_is_told_at_the_end(; def test_a_run_says_at_its_end_that_its_file_was_changed(; "
+        "def test_a_run_says_at_its_end_that_its_file_lost_its_name("
+    ),
     """the file was cut ..""": "def test_it_is_told_at_the_end(; def test_a_name_that_is_replaced_beside_another_is_told(",
+    """Its first line is ..""": "def test_each_greeting_of_a_mock_says_so_and_no_other(",
     """An answer to these has .. `ERR front word` is .. A command that it refuses ..""": (
         "def test_answers_of_a_front_are_read_and_written(; def test_a_bid_of_another_round_is_sent_nowhere("
     ),
