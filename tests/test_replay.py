@@ -136,6 +136,7 @@ round  number  name  bidder  node  amount
     1       3  bob   z       all      500
     1       4  carl  w       c        100
     2       6  carl  w       c        250
+    2       7  desk  -       stage 2    -
 
 round  commands  revenue  auction
     1         4      500  open
@@ -164,7 +165,7 @@ def test_what_is_shown_of_a_first_auction(told: Front, replay: Replays) -> None:
     assert without_times(ran.output) == TABLE.split()
     entries, place = read_record(told.record)
     times = [entry["at"] for entry in entries if entry["kind"] == "accepted"]
-    assert re.findall(TIME, ran.output) == [times[number - 1] for number in (1, 2, 3, 4, 6, 5, 8)]
+    assert re.findall(TIME, ran.output) == [times[number - 1] for number in (1, 2, 3, 4, 6, 7, 5, 8)]
     assert ran.lines()[-1] == f"The last hash is {place.hash}."
     assert series(told.folder / "S") == SERIES
     picture = (told.folder / "S").read_bytes()

@@ -5,12 +5,13 @@ from __future__ import annotations
 
 import asyncio
 import csv
+import gc
 import io
 import json
 import pathlib
 import random
 import re
-import resource
+import sys
 import urllib.parse
 from collections import Counter
 from collections.abc import Iterator, Mapping
@@ -20,12 +21,12 @@ from typing import Any
 import pytest
 
 from hpb.front.core.information import Identities, Information, Rule
+from hpb.refusals import FrontRefused
 from hpb.web import acting, doors, sending, walls
 from hpb.web.resources import RESOURCES
 from hpb.web.sessions import COOKIE
-from web_browser import Browser
 from web_front import ROLES, Front, token_of
-from web_site import Visitor, visited
+from web_site import visited
 
 FIRST_ROUND = ("BID x 1 a 100", "BID y 1 b 150", "BID z 1 all 500", "BID w 1 c 100", "CLOSE 1")
 OWN = {name: set(role.bidders) for name, role in ROLES.items()}
@@ -191,13 +192,40 @@ def values_of(document: Any, field_: str) -> Iterator[Any]:
             yield from values_of(one, field_)
 
 
-async def asks(dice: Dice, visitor: Visitor, front: Front, count: int, seen: Counter[int]) -> None:
+async def sign_in(dice: Dice) -> None:
+    """Signs in, with a session and a form that are new."""
+    host = f"HTTP/1.1\r\nHost: 127.0.0.1:{dice.port}\r\nConnection: close\r\n"
+    head, body = await answered(dice.port, f"GET /signin {host}\r\n".encode())
+    cookie, form = found_in(rb"(__Host-hpb-form=[^;]+)", head), found_in(rb'name="form" value="([^"]+)"', body)
+    sent = urllib.parse.urlencode({"form": form, "name": dice.name, "token": token_of(dice.name)})
+    fields = f"Origin: http://127.0.0.1:{dice.port}\r\nCookie: {cookie}\r\nContent-Type: application/x-www-form-urlencoded\r\nContent-Length: {len(sent)}\r\n"
+    head, _ = await answered(dice.port, f"POST /signin {host}{fields}\r\n{sent}".encode())
+    dice.cookie = found_in(rb"__Host-hpb=([^;]+)", head)
+    _, body = await answered(dice.port, f"GET /results {host}Cookie: {COOKIE}={dice.cookie}\r\n\r\n".encode())
+    dice.form = found_in(rb'name="form" value="([^"]+)"', body)
+
+
+async def answered(port: int, data: bytes) -> tuple[bytes, bytes]:
+    """Head and body of an answer. On a busy machine a connection may be too late, and is tried again."""
+    while not (found := await exchanged(port, data)):
+        pass
+    return found[0][1:]
+
+
+def found_in(pattern: bytes, data: bytes) -> str:
+    """What a pattern finds, which has to be there."""
+    found = re.search(pattern, data)
+    assert found, data
+    return found[1].decode()
+
+
+async def asks(dice: Dice, front: Front, count: int, seen: Counter[int]) -> None:
     """So many requests of a name, each looked at."""
     for number in range(count):
+        if number % 1_000 == 0:
+            await sign_in(dice)
         if number % 100 == 0:
             begin(front)
-            browser = await Browser(visitor).sign_in(dice.name)
-            dice.cookie, dice.form = browser.cookies[COOKIE], browser.form("/signout").fields["form"]
         data = dice.request()
         async with asyncio.timeout(60):
             answers = await exchanged(dice.port, data)
@@ -211,24 +239,29 @@ def begin(front: Front) -> None:
     """The auction after its first round."""
     front.auction, front.veil = front.began
     front.asked.clear()
+    if len(front.news) > 300:
+        front.answers = {word: FrontRefused("clock") for word in ("SAY", "PAUSE", "RESUME", "OPEN", "EXTEND")}
 
 
 async def fuzz(count: int, seed: int, results: pathlib.Path) -> tuple[Counter[int], list[int]]:
-    """All statuses, and how much memory the process had at its most after each tenth, in KiB."""
+    """All statuses, and how many blocks of memory were in use after each tenth."""
     front = Front(information=Information(Rule(Identities.NONE, False, False)))
     for line in FIRST_ROUND:
         front.tell(line)
     front.began = front.auction, front.veil
     seen, sizes = Counter[int](), list[int]()
     async with visited(front, results) as visitor:
-        port = visitor.client.port
-        assert port
+        site: Any = visitor.client.server
+        server = await asyncio.get_running_loop().create_server(doors.Doors(site.runner.server), "127.0.0.1", 0)
+        port = server.sockets[0].getsockname()[1]
         all_dice = [Dice(random.Random(f"{seed} {name}"), name, port) for name in ROLES]
         for _ in range(10):
-            await asyncio.gather(*(asks(dice, visitor, front, count // 10 // len(all_dice), seen) for dice in all_dice))
-            sizes.append(resource.getrusage(resource.RUSAGE_SELF).ru_maxrss)
+            await asyncio.gather(*(asks(dice, front, count // 10 // len(all_dice), seen) for dice in all_dice))
+            gc.collect()
+            sizes.append(sys.getallocatedblocks())
         for name in ROLES:
             assert (await visitor.get("/v1/bidders/me", name))["name"] == name
+        server.close()
     return seen, sizes
 
 
@@ -237,14 +270,14 @@ def quick(monkeypatch: pytest.MonkeyPatch) -> None:
     """Nobody waits for long for half a request."""
     monkeypatch.setattr(acting, "WAIT_SECONDS", 0.3)
     monkeypatch.setattr(sending, "PAUSE", 0.05)
-    monkeypatch.setattr(walls, "BODY_SECONDS", 0.3)
-    monkeypatch.setattr(doors, "HEAD_SECONDS", 0.3)
+    monkeypatch.setattr(walls, "BODY_SECONDS", 1.0)
+    monkeypatch.setattr(doors, "HEAD_SECONDS", 1.0)
 
 
 def look(seen: Counter[int], sizes: list[int], count: int) -> None:
-    """The dice reached all kinds of answers, and the last nine tenths took no memory that the first didn't."""
+    """The dice reached all kinds of answers, and the last seven tenths took no memory that the first three didn't."""
     assert seen.total() > count // 2 and {200, 303, 400, 401, 403, 404, 409} <= set(seen), seen
-    assert sizes[-1] - sizes[0] < 24 * 1024, sizes
+    assert sizes[-1] - sizes[2] < 20_000, sizes
 
 
 def test_two_thousand_requests_by_dice(tmp_path: pathlib.Path) -> None:

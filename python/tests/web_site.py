@@ -72,7 +72,9 @@ async def visited(front: Front, results: pathlib.Path | None = None, **fields: A
     names = Names(front.tree, front.connect, notes)
     site = site_of(dataclasses.replace(config, results=results))
     sender = Sender(Drafts(config.drafts))
-    async with TestClient(TestServer(application_of(config, site, names, sender, notes))) as client:
+    server = TestServer(application_of(config, site, names, sender, notes))
+    await server.start_server(auto_decompress=False, logger=logging.Logger("silent", logging.CRITICAL + 1))
+    async with TestClient(server) as client:
         yield Visitor(client, noted, names)
     await sender.end()
 

@@ -153,14 +153,17 @@ def _table(head: Sequence[str], rows: Sequence[Sequence[str | int]]) -> Iterator
 
 
 def _bids_by_round(story: Story) -> Iterator[str]:
-    """Each bid and each waiver, with its round."""
-    rows, number = list[tuple[str | int, ...]](), 1
+    """Each bid, each waiver and each stage, with its round."""
+    rows, number, stage = list[tuple[str | int, ...]](), 1, 1
     for command in story.commands:
         match command.words:
             case ["BID", bidder, _, node, amount]:
                 rows.append((number, command.number, command.at, command.name, bidder, node, int(amount)))
             case ["WAIVE", bidder, _]:
                 rows.append((number, command.number, command.at, command.name, bidder, "waiver", "-"))
+            case ["STAGE", _]:
+                stage += 1
+                rows.append((number, command.number, command.at, command.name, "-", f"stage {stage}", "-"))
             case ["CLOSE", _]:
                 number += 1
     return _table(("round", "number", "at", "name", "bidder", "node", "amount"), rows)

@@ -1,6 +1,7 @@
 """The site as a server: its parts together, its sockets, and its end."""
 import asyncio
 import dataclasses
+import logging
 import resource
 import ssl
 from collections.abc import Callable
@@ -27,6 +28,8 @@ from hpb.web.walls import MOST_BODY, Way, guarded
 
 # How long a call of the front may take, and how long requests may go on at the end, in seconds.
 FRONT_SECONDS, END_SECONDS = 20.0, 3.0
+# aiohttp has words for each stranger's bytes that are no request. Nobody needs them, and strangers could fill a disk with them.
+_SILENT: Final = logging.Logger("hpb.web.silent", logging.CRITICAL + 1)
 # Longest first line and longest field of a request, in bytes.
 MOST_LINE: Final = 8_190
 
@@ -78,7 +81,7 @@ async def serve(config: Config, notes: Notes, say: Callable[[str], None], until:
     names, sender = Names(config.tree, connects(config), notes), Sender(Drafts(config.drafts))
     runner = web.AppRunner(
         application_of(config, site, names, sender, notes), handle_signals=False, access_log=None, max_line_size=MOST_LINE, max_field_size=MOST_LINE,
-        auto_decompress=False,
+        auto_decompress=False, logger=_SILENT,
     )
     await runner.setup()
     tasks = list[asyncio.Task[None]]()
