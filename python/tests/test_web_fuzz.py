@@ -71,6 +71,10 @@ class Dice:
             made = self.spoiled(made)
         return made
 
+    def bidder(self) -> str:
+        """A bidder, most often one of its own if it has any."""
+        return self.dice.choice([*sorted(OWN[self.name]) * 4, *"xyzw"])
+
     def whole(self, method: str, path: str, body: bytes | None = None) -> bytes:
         """A request with its fields, some of which may be odd."""
         if body is not None:
@@ -88,8 +92,8 @@ class Dice:
         if method == "GET":
             return self.whole("GET", path)
         kinds: list[dict[str, Any]] = [
-            {"kind": "bid", "bidder": self.dice.choice("xyzw"), "node": self.dice.choice("abcd"), "amount": 10 * self.dice.randrange(60), "ticket": self.dice.randrange(5)},
-            {"kind": "waive", "bidder": self.dice.choice("xyzw"), "ticket": 2}, {"to": "all", "text": "hello"}, {"number": 1}, {"kind": "pause"}, {"ticket": 2},
+            {"kind": "bid", "bidder": self.bidder(), "node": self.dice.choice("abcd"), "amount": 10 * self.dice.randrange(60), "ticket": self.dice.randrange(5)},
+            {"kind": "waive", "bidder": self.bidder(), "ticket": 2}, {"to": "all", "text": "hello"}, {"number": 1}, {"kind": "pause"}, {"ticket": 2},
         ]
         body = self.dice.choice(kinds)
         for _ in range(self.dice.choice((0, 0, 1, 2))):
@@ -105,7 +109,7 @@ class Dice:
     def of_form(self) -> bytes:
         """A form of the session."""
         self.headers |= {"Cookie": f"{COOKIE}={self.cookie}", "Origin": f"http://127.0.0.1:{self.port}"}
-        fields = {"form": self.form, "bidder": self.dice.choice("xyzw"), "round": "2", "ticket": "2", "kind": "pause", "to": "all", "text": "hello"}
+        fields = {"form": self.form, "bidder": self.bidder(), "round": "2", "ticket": "2", "kind": "pause", "to": "all", "text": "hello"}
         for _ in range(self.dice.choice((1, 2, 3))):
             fields[self.dice.choice(FORM_FIELDS)] = self.dice.choice(WORDS)
         path = self.dice.choice(FORMS)
@@ -276,7 +280,7 @@ def quick(monkeypatch: pytest.MonkeyPatch) -> None:
 
 def look(seen: Counter[int], sizes: list[int], count: int) -> None:
     """The dice reached all kinds of answers, and the last seven tenths took no memory that the first three didn't."""
-    assert seen.total() > count // 2 and {200, 303, 400, 401, 403, 404, 409} <= set(seen), seen
+    assert seen.total() > count // 2 and {200, 303, 400, 401, 403, 404, 409, 411, 415, 421, 422} <= set(seen), seen
     assert sizes[-1] - sizes[2] < 20_000, sizes
 
 

@@ -7,14 +7,14 @@ from aiohttp import web
 
 from hpb.amounts import counted, money
 from hpb.limits import MOST_COMMANDS, MOST_TICKET, NAME
-from hpb.lines import Answer, Bid, Close, Command, Stage, Waive
+from hpb.lines import Answer, Bid, Close, Command, NodeShown, Stage, Waive
 from hpb.markup import Markup, element
 from hpb.pages.rounds import change_says
 from hpb.rounds import Agreed, News, Previewed, Prospect, Schedule
 from hpb.rules.tree import Tree
 from hpb.web import bidding, desk, documents, standpoint
 from hpb.web.drafts import ACCEPTED, SENT, Draft, NotKept
-from hpb.web.html import clock_line, facts, section, table
+from hpb.web.html import clock_line, facts, in_halves, section, table
 from hpb.web.intents import announcement_line, clock_line_in
 from hpb.web.links import AUCTIONEER, BIDDER, OBSERVER, Standing, read_as
 from hpb.web.pages import Pages, Visit, to_page
@@ -278,13 +278,21 @@ def results_parts(tree: Tree, standing: Standing, own: Sequence[str]) -> list[Ma
     found = documents.results_of(tree, standing.shown, standing.nodes, standing.information)
     sums = [f"{one['bidder']}: {counted(one['licences'], 'licence')}, {money(one['amount'])}" for one in found["bidders"]]
     listed = element("ul", *(element("li", text) for text in sums))
-    rows = [
-        [node.name, money(node.high) if node.high else "no bid", node.bidder or "", money(node.price), money(node.minimum), "wins" if node.wins else ""]
-        for node in standing.nodes.values()
-    ]
-    marks = ["mine" if node.bidder in own else "" for node in standing.nodes.values()]
-    nodes = table("All nodes after the last close", ["Node", "High bid", "Bidder", "Price", "Least bid", "Wins"], rows, marks)
+    nodes = in_halves(list(standing.nodes.values()), "All nodes after the last close", lambda part, caption: _nodes_table(part, caption, own))
     return [*([section("Winners", listed, name="winners")] if sums else []), section("Nodes", nodes, name="nodes")]
+
+
+def _nodes_table(nodes: Sequence[NodeShown], caption: str, own: Sequence[str]) -> Markup:
+    rows = [
+        [node.name, money(node.high) if node.high else "no bid", _bidder_cell(node, own), money(node.price), money(node.minimum), "wins" if node.wins else ""]
+        for node in nodes
+    ]
+    marks = ["mine" if node.bidder in own else "" for node in nodes]
+    return table(caption, ["Node", "High bid", "Bidder", "Price", "Least bid", "Wins"], rows, marks)
+
+
+def _bidder_cell(node: NodeShown, own: Sequence[str]) -> object:
+    return element("span", node.bidder, element("small", "yours")) if node.bidder in own else node.bidder or ""
 
 
 def draft_of(draft: Draft) -> dict[str, object]:

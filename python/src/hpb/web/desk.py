@@ -8,13 +8,11 @@ from hpb.markup import Markup, element
 from hpb.pages.rounds import change_says, time_says
 from hpb.rounds import News, Previewed, Prospect, Schedule
 from hpb.rules.tree import Tree
-from hpb.web.html import NO_TEXT, button, clock_line, facts, field, form, notice, section, table
+from hpb.web.html import NO_TEXT, button, clock_line, facts, field, form, in_halves, notice, section, table
 
 # What has to be typed before a close that ends the auction.
 ENDING_WORD: Final = "END"
 _MOST_NEWS: Final = 8
-# So many bidders stand in one table; of more, two tables stand side by side.
-_MOST_ROWS: Final = 32
 COLUMNS: Final = ("Bidder", "Eligibility", "Activity", "Short", "At a close now")
 
 
@@ -39,10 +37,7 @@ def prospect_says(one: Prospect) -> str:
 
 def prospects_table(bidders: Sequence[Prospect], caption: str) -> Markup:
     """Bidders by urgency."""
-    rows = sorted(bidders, key=urgency)
-    half = len(rows) if len(rows) <= _MOST_ROWS else -(-len(rows) // 2)
-    tables = [_table(rows[:half], caption), *([_table(rows[half:], f"{caption}, the rest")] if rows[half:] else [])]
-    return element("div", *tables, class_="halves") if len(tables) > 1 else tables[0]
+    return in_halves(sorted(bidders, key=urgency), caption, _table)
 
 
 def _table(rows: Sequence[Prospect], caption: str) -> Markup:

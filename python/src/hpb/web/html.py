@@ -1,6 +1,6 @@
 """Parts of the site's pages. All text is escaped, and nothing is loaded from elsewhere."""
-from collections.abc import Iterable, Mapping, Sequence
-from typing import Final
+from collections.abc import Callable, Iterable, Mapping, Sequence
+from typing import Final, TypeVar
 
 from hpb.markup import Markup, element, joined
 from hpb.rounds import Schedule
@@ -9,6 +9,10 @@ from hpb.pages.rounds import clock_says
 STYLE: Final = "/site.css"
 FORM: Final = "form"
 NO_TEXT: Final = Markup("")
+# So many rows stand in one table.
+MOST_ROWS: Final = 32
+
+Row = TypeVar("Row")
 
 
 def without_end(tag: str, **attributes: object) -> Markup:
@@ -45,6 +49,14 @@ def table(caption: str, columns: Sequence[str], rows: Iterable[Sequence[object]]
     ]
     whole = element("table", element("caption", caption), element("thead", head), element("tbody", *made), **attributes)
     return element("div", whole, class_="scrolled", role="region", aria_label=caption, tabindex="0")
+
+
+def in_halves(rows: Sequence[Row], caption: str, made: Callable[[Sequence[Row], str], Markup]) -> Markup:
+    """Rows as a table. Of many, two tables stand side by side if there is room."""
+    if len(rows) <= MOST_ROWS:
+        return made(rows, caption)
+    half = -(-len(rows) // 2)
+    return element("div", made(rows[:half], caption), made(rows[half:], f"{caption}, the rest"), class_="halves")
 
 
 def facts(pairs: Mapping[str, object]) -> Markup:
