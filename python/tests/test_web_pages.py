@@ -12,6 +12,7 @@ import pytest
 from hpb.client.outcomes import Unanswered
 from hpb.lines import Bid, Close
 from hpb.refusals import FrontRefused, HpbError
+from hpb.rounds import ReceiptGiven
 from hpb.web import acting, sending
 from hpb.web.drafts import ACCEPTED, SENT, Draft, Drafts, NotKept
 from hpb.web.sessions import COOKIE, IDLE_SECONDS, MOST_OF_NAME, MOST_SECONDS, Sessions
@@ -263,6 +264,17 @@ def test_a_bid_is_checked_then_sent_once_and_has_a_receipt() -> None:
             assert "accepted, number 6" in ann.words() and commands(front) == ["IN 2 BID x 2 a 160"], "sent again, it isn't sent again"
             await ann.go("/receipts/x/2")
             assert "160 on a for x" in ann.words() and "Number 6" in ann.words()
+            assert "hash that the operator gives out" in ann.words(), "this front has no seals"
+            await ann.go("/receipts/x/2.json")
+            assert ann.status == 404
+            front.answers["RECEIPT"] = FrontRefused("unsealed")
+            await ann.go("/receipts/x/2")
+            assert "stands here once its round is closed" in ann.words()
+            front.answers["RECEIPT"] = ReceiptGiven(6, '{"receipt": 1, "hash": "00ff"}')
+            await ann.go("/receipts/x/2")
+            assert "Hash in the record 00ff" in ann.words() and 'href="/receipts/x/2.json"' in ann.text
+            await ann.go("/receipts/x/2.json")
+            assert ann.text == '{"receipt": 1, "hash": "00ff"}\n' and "attachment" in ann.headers["Content-Disposition"]
             await ann.go("/bid")
             assert "Enough" in ann.words() and "sent in this round" in ann.words()
             await ann.go("/drafts.csv")

@@ -10,7 +10,7 @@ from hpb.limits import MOST_COMMANDS, MOST_TICKET, NAME
 from hpb.lines import Answer, Bid, Close, Command, NodeShown, Stage, Waive
 from hpb.markup import Markup, element
 from hpb.pages.rounds import change_says
-from hpb.rounds import Agreed, News, Previewed, Prospect, Schedule
+from hpb.rounds import Agreed, News, Previewed, Prospect, ReceiptGiven, Schedule
 from hpb.rules.tree import Tree
 from hpb.web import bidding, desk, documents, standpoint
 from hpb.web.drafts import ACCEPTED, SENT, Draft, NotKept
@@ -19,7 +19,7 @@ from hpb.web.intents import announcement_line, clock_line_in
 from hpb.web.links import AUCTIONEER, BIDDER, OBSERVER, Standing, read_as
 from hpb.web.pages import Pages, Visit, to_page
 from hpb.web.problems import Problem, problem
-from hpb.web.rendering import csv_of
+from hpb.web.rendering import JSON, csv_of
 from hpb.web.standpoint import Judged, Standpoint, Unread, Wish
 
 # A page waits so many seconds for the answers to what it sent. Then it shows the drafts as they are, and is loaded again after some.
@@ -45,6 +45,7 @@ class Acting:
         router.add_get("/drafts", seeing(self._drafts, BIDDER), allow_head=False)
         router.add_get("/drafts.csv", seeing(self._drafts_csv, BIDDER), allow_head=False)
         router.add_get("/drafts/{bidder}/{first}-{last}", seeing(self._outcomes, BIDDER), allow_head=False)
+        router.add_get("/receipts/{bidder}/{ticket}.json", seeing(self._receipt_file, BIDDER), allow_head=False)
         router.add_get("/receipts/{bidder}/{ticket}", seeing(self._receipt, BIDDER), allow_head=False)
         router.add_get("/desk", seeing(self._desk, AUCTIONEER), allow_head=False)
         router.add_get("/desk/close", seeing(self._close_form, AUCTIONEER), allow_head=False)
@@ -166,13 +167,27 @@ class Acting:
         fields = {"Content-Disposition": 'attachment; filename="bids.csv"'}
         return web.Response(body=csv_of(rows, DRAFT_COLUMNS), content_type="text/csv", charset="utf-8", headers=fields)
 
-    async def _receipt(self, visit: Visit) -> web.StreamResponse:
+    def _accepted(self, visit: Visit) -> Draft:
+        """The accepted draft of a receipt."""
         parts = visit.request.match_info
         found = self._sender.drafts.accepted(visit.session.name, parts["bidder"], _whole(parts["ticket"]))
         if found is None:
             raise problem("nothing", "there is no accepted draft with this ticket")
+        return found
+
+    async def _receipt(self, visit: Visit) -> web.StreamResponse:
+        found = self._accepted(visit)
         (schedule,) = await visit.link.all(["SCHEDULE"], Schedule)
-        return self._pages.answer(visit, f"Receipt {found.command.ticket}", list(bidding.receipt(found, self._site.heading, schedule)))
+        (sealed,) = await visit.link.answers(f"RECEIPT {found.number}")
+        return self._pages.answer(visit, f"Receipt {found.command.ticket}", bidding.receipt(found, self._site.heading, schedule, sealed))
+
+    async def _receipt_file(self, visit: Visit) -> web.StreamResponse:
+        found = self._accepted(visit)
+        (sealed,) = await visit.link.answers(f"RECEIPT {found.number}")
+        if not isinstance(sealed, ReceiptGiven):
+            raise problem("nothing", "no seal is behind this command yet, or the front has none")
+        fields = {"Content-Disposition": f'attachment; filename="receipt-{found.number}.json"'}
+        return web.Response(body=sealed.text.encode() + b"\n", content_type=JSON, headers=fields)
 
     # The desk.
 

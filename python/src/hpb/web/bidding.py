@@ -1,10 +1,12 @@
 """The pages of a bidder: its nodes and what bids would do, a basket before it is sent, and what became of each draft."""
+import json
 from collections.abc import Iterable, Sequence
 
 from hpb.amounts import counted, money
 from hpb.lines import Bid, Command, Waive
 from hpb.markup import Markup, element
-from hpb.rounds import Schedule
+from hpb.refusals import FrontRefused
+from hpb.rounds import ReceiptGiven, Schedule
 from hpb.rules.what_if import Rise
 from hpb.web.drafts import ACCEPTED, NEVER, REFUSED, SENT, Draft
 from hpb.web.html import NO_TEXT, button, clock_line, facts, field, form, hidden, notice, section, table, without_end
@@ -198,14 +200,21 @@ def _receipt_link(draft: Draft) -> object:
     return element("a", f"Receipt {draft.command.ticket}", href=f"/receipts/{draft.bidder}/{draft.command.ticket}")
 
 
-def receipt(draft: Draft, title: str, schedule: Schedule) -> list[Markup]:
-    """An accepted draft, to be printed."""
+def receipt(draft: Draft, title: str, schedule: Schedule, sealed: object) -> list[Markup]:
+    """An accepted draft, to be printed; with the record's hash of it, once a seal is behind it."""
     shown = {
         "Auction": title, "Name": draft.name, "Command": command_says(draft.command), "Round": draft.round or "", "Ticket": draft.command.ticket,
         "Number": money(draft.number or 0), "Accepted at": f"{draft.at[:10]} {time_of(draft.at)}",
     }
-    told = "The record has this command under its number. The hash that the operator gives out after the close of this round binds it."
-    return [clock_line(schedule), section("Receipt", facts(shown), element("p", told), name="receipt")]
+    if isinstance(sealed, ReceiptGiven):
+        shown["Hash in the record"] = json.loads(sealed.text)["hash"]
+        link = element("a", "receipt as a file", href=f"/receipts/{draft.bidder}/{draft.command.ticket}.json")
+        told = element("p", "Anyone can check the ", link, " by hpb-verify --receipt.")
+    elif isinstance(sealed, FrontRefused) and sealed.word == "unsealed":
+        told = element("p", "The record's hash of it stands here once its round is closed.")
+    else:
+        told = element("p", "The record has this command under its number. The hash that the operator gives out after the close of this round binds it.")
+    return [clock_line(schedule), section("Receipt", facts(shown), told, name="receipt")]
 
 
 def sign_in_page(token: str, said: str, has_codes: bool) -> list[Markup]:
