@@ -133,6 +133,7 @@ class Day:
             "vanishing": [(self.vanish, 4)],
             "streams": [(world.lose_line, 1)],
             "mislaid": [(self.mislay, 1)],
+            "freezes": [(lambda: world.post(events.AskFreeze()), 3), (lambda: world.post(events.Thaw()), 3)],
         }
         return self.benign() + [(self.rude.move, 20)] + [move for kind in sorted(self.faults) for move in faults.get(kind, [])]
 
@@ -204,14 +205,29 @@ class Day:
         self.end()
 
     def calm_down(self) -> None:
-        """From here on nothing goes wrong, and everybody has a token."""
+        """From here on nothing goes wrong, and everybody has a token. A freeze comes to stand, and ends."""
         self.world.kill_chance = 0.0
+        if "freezes" in self.faults:
+            self.freeze()
         for wire in self.rude.wires:
             self.world.hang_up(wire)
         for name, number in self.world.tokens.items():
             if not number:
                 self.generation += 1
                 self.world.reload(name, self.generation)
+
+    def freeze(self) -> None:
+        """Freezes commands while callers go on."""
+        for _ in range(MOST_MOVES):
+            if self.promises.frozen is not None:
+                break
+            self.world.post(events.AskFreeze())
+            self.move(self.benign())
+        else:
+            raise Broken(Promise.GOES_ON, "commands don't come to stand still")
+        for _ in range(MOVES // 10):
+            self.move(self.benign())
+        self.world.post(events.Thaw())
 
     def hang(self) -> None:
         """Stops the front. From then on only time passes, and callers come and go."""

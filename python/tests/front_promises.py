@@ -48,6 +48,7 @@ class Promise(enum.Enum):
     SAME_AUCTION = "After a restart the server gets no line of a name before it has shown the auction that the front goes on with. Else the front ends, and says so."
     LISTENS = "Without its line LISTENING or BOARD on standard output the front ends; without any other it goes on."
     AGREES = "When anybody is let in the record has what the file has."
+    FROZEN = "While commands are frozen, record and file have the same ones, and none goes to the server."
 
 
 class Broken(AssertionError):
@@ -111,6 +112,8 @@ class Promises(Watch):
         self.came: dict[str, deque[tuple[Wire, bytes]]] = {name: deque() for name in ROLES}
         self.answered = dict.fromkeys(ROLES, 0)
         self.has_admitted = False
+        # While commands are frozen: those of the file.
+        self.frozen: list[tuple[str, str]] | None = None
         self.stopped_at: float | None = None
 
     def started(self, world: World) -> None:
@@ -142,8 +145,11 @@ class Promises(Watch):
             case events.ServerGone() | events.ServerFailed():
                 self.outstanding.clear()
                 self.to_ask.clear()
+            case events.Thaw():
+                require(self.frozen in (None, kept(world)), Promise.FROZEN, (self.frozen, kept(world)))
+                self.frozen = None
             case events.Stop():
-                self.stopped_at = self.stopped_at or world.passed
+                self.stopped_at, self.frozen = self.stopped_at or world.passed, None
         self.look_at_time(world)
         unknown = [wire for wire in world.wires.values() if not wire.name and not wire.is_closed]
         most = world.limits.unknown_connections + isinstance(event, events.Came)
@@ -178,6 +184,10 @@ class Promises(Watch):
                 self.outstanding.clear()
             case effects.Write("accepted", fields):
                 self.look_at_entry(world, fields["line"], fields["answer"])
+            case effects.Frozen(count, place):
+                self.frozen = kept(world)
+                require(self.frozen == world.disk.accepted(), Promise.FROZEN, (self.frozen, world.disk.accepted()))
+                require((count, place) == (len(self.frozen), world.disk.place) and not world.disk.writes, Promise.FROZEN, (count, place))
             case effects.Admit():
                 self.has_admitted = True
                 require(world.disk.accepted() == kept(world), Promise.AGREES, (world.disk.accepted(), kept(world)))
@@ -224,6 +234,7 @@ class Promises(Watch):
 
     def look_at_line(self, world: World, session: int, line: bytes) -> None:
         """A line to the server."""
+        require(self.frozen is None or not is_command(line), Promise.FROZEN, line)
         require(session not in self.outstanding, Promise.ONE_OUTSTANDING, line)
         self.outstanding.add(session)
         if self.to_ask:

@@ -17,7 +17,7 @@ from hpb.front.core import Front, effects, events, ledger, state, step, steps
 from hpb.front.core.effects import Effect
 from hpb.front.core.events import Event
 
-ALL = "kills losses disks reloads jumps stops vanishing streams"
+ALL = "kills losses disks reloads jumps stops vanishing streams freezes"
 SEEDS, MORE_SEEDS = 10, 100
 # The parts of a state of which a step changes copies of its own.
 COPIED = ("Connection", "Item", "Name", "Session", "Ledger")

@@ -8,10 +8,10 @@ import pytest
 
 from front_days import Day
 from front_promises import Broken, Promise
-from hpb.front.core import clients, ending, finding, matching, serving, sessions
+from hpb.front.core import clients, ending, finding, freezing, matching, serving, sessions
 from hpb.front.core.effects import Wake
 from hpb.front.core.ledger import Held, Ledger
-from hpb.front.core.state import Connection, For, Item, Stage
+from hpb.front.core.state import Connection, For, Freeze, Item, Phase, Stage
 from hpb.front.core.stepping import Step
 from hpb.front.rights import Role, refused
 
@@ -226,6 +226,30 @@ def ended_by_any_lost_line(patch: pytest.MonkeyPatch) -> None:
     patch.setattr(ending, "LISTENS", "")
 
 
+def frozen_too_early(patch: pytest.MonkeyPatch) -> None:
+    """A freeze stands before commands on their way are in the record."""
+    patch.setattr(freezing, "is_still", lambda front: front.phase is Phase.OPEN)
+
+
+def begun_in_a_freeze(patch: pytest.MonkeyPatch) -> None:
+    """Commands begin while others are frozen."""
+    may_begin = sessions.may_begin
+
+    def early(step: Step, item: Item, gate: int | None) -> bool:
+        freeze = step.front.freeze
+        step.set(freeze=Freeze.NONE)
+        may = may_begin(step, item, gate)
+        step.set(freeze=freeze)
+        return may
+
+    patch.setattr(sessions, "may_begin", early)
+
+
+def frozen_for_ever(patch: pytest.MonkeyPatch) -> None:
+    """Nothing goes on behind a freeze."""
+    patch.setattr(freezing, "end", lambda step: None)
+
+
 PLANTS: list[tuple[Plant, Promise, str]] = [
     (answer_before_sync, Promise.OK_IS_KEPT, ""),
     (entry_lost_at_kill, Promise.NOTHING_LOST, "kills"),
@@ -252,6 +276,9 @@ PLANTS: list[tuple[Plant, Promise, str]] = [
     (told_after_its_token_went, Promise.REVOKED, "losses reloads slow"),
     (lost_line_waited_for, Promise.LISTENS, "streams"),
     (ended_by_any_lost_line, Promise.LISTENS, "streams"),
+    (frozen_too_early, Promise.FROZEN, "freezes"),
+    (begun_in_a_freeze, Promise.FROZEN, "freezes"),
+    (frozen_for_ever, Promise.GOES_ON, "freezes"),
 ]
 
 

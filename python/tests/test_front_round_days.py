@@ -20,7 +20,7 @@ from hpb.front.core.stepping import Step
 from hpb.front.core.values import changed
 from hpb.front.rights import for_server
 
-ALL = "kills boundary losses sleeps set sync drift jumps stops vanishing reloads disks"
+ALL = "kills boundary losses sleeps set sync drift jumps stops vanishing reloads disks freezes"
 FAULTS = ["", "kills boundary", "kills boundary sleeps", "set sync", "jumps drift", "losses vanishing reloads", ALL, f"{ALL} slow"]
 SEEDS, PLANT_SEEDS = 3, 60
 # The long run has so many seeds, in so many parts.

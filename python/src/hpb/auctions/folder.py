@@ -13,12 +13,23 @@ from hpb.refusals import HpbError
 
 STANDARD = "/var/lib/hpb"
 CONFIGURATION = "front.toml"
+# The configuration of an auction whose move to another folder was interrupted: nothing starts it.
+MOVING = "front.toml.moving"
 # The tables that may have an address, with the configuration itself.
 WITH_ADDRESS = ("board", "metrics")
 
 
 class CantDo(HpbError):
     """A request can't be met. The text says why."""
+
+
+@contextlib.contextmanager
+def failing(path: object) -> Iterator[None]:
+    """A failure of the system is a CantDo, which names its file, or else this one."""
+    try:
+        yield
+    except OSError as fault:
+        raise CantDo(f"{fault.filename or path}: {fault.strerror or fault}") from None
 
 
 @dataclass(frozen=True)
@@ -34,8 +45,9 @@ class Auction:
 
     def fields(self) -> dict[str, Any]:
         """The fields of its configuration, unchecked."""
+        is_moving = (self.folder / MOVING).exists() and not self.configuration.exists()
         try:
-            return tomllib.loads(self.configuration.read_text(encoding="utf-8"))
+            return tomllib.loads((self.folder / MOVING if is_moving else self.configuration).read_text(encoding="utf-8"))
         except OSError as fault:
             raise CantDo(f"{self.configuration}: {fault.strerror}") from None
         except ValueError as fault:
@@ -53,6 +65,10 @@ class Auction:
         if not isinstance(word, str):
             raise CantDo(f"{self.configuration}: {field} has to be there, as a text")
         return self.folder / word
+
+    def has_record(self) -> bool:
+        """Whether a front has begun a record."""
+        return self.path("record").exists()
 
     def is_served(self) -> bool:
         """Whether a front has its record: a front locks it for as long as it runs."""
@@ -83,11 +99,13 @@ class Auctions:
             found = sorted(self.folder.iterdir())
         except OSError as fault:
             raise CantDo(f"{self.folder}: {fault.strerror}") from None
-        return [Auction(one.name, one) for one in found if NAME.fullmatch(one.name) and (one / CONFIGURATION).exists()]
+        return [Auction(one.name, one) for one in found if NAME.fullmatch(one.name) and any((one / name).exists() for name in (CONFIGURATION, MOVING))]
 
     def named(self, name: str) -> Auction:
         """The auction of this name."""
         found = self.place(name)
+        if (found.folder / MOVING).exists():
+            raise CantDo(f"{name}: its move to another folder was interrupted: `move` it again, to the same one")
         if not found.configuration.exists():
             raise CantDo(f"{name}: {self.folder} has no such auction")
         return found
@@ -97,16 +115,3 @@ class Auctions:
         if not NAME.fullmatch(name):
             raise CantDo(f"{name!r} is no name: it has 1 to 16 of a to z, 0 to 9 and _")
         return Auction(name, self.folder / name)
-
-    @contextlib.contextmanager
-    def changing(self) -> Iterator[None]:
-        """Nobody else makes an auction meanwhile."""
-        try:
-            lock = os.open(self.folder, os.O_RDONLY | os.O_DIRECTORY | os.O_CLOEXEC)
-        except OSError as fault:
-            raise CantDo(f"{self.folder}: {fault.strerror}") from None
-        try:
-            fcntl.flock(lock, fcntl.LOCK_EX)
-            yield
-        finally:
-            os.close(lock)

@@ -1,4 +1,5 @@
 """Makes an auction: its file, its certificate, its tokens and its configuration, all or nothing."""
+import contextlib
 import csv
 import importlib.util
 import json
@@ -7,10 +8,12 @@ import pathlib
 import re
 import shutil
 import subprocess
+from collections.abc import Iterator
 from dataclasses import dataclass
 from typing import Any
 
 from hpb.auctions.folder import CONFIGURATION, Auction, Auctions, CantDo
+from hpb.auctions.parts import give_name, locked, put, sync
 from hpb.file import read_head, read_image
 from hpb.front.config import METRICS_LIBRARY, Config, read_address
 from hpb.front.faults import Wrong
@@ -57,23 +60,30 @@ def make(auctions: Auctions, name: str, wanted: Wanted) -> Auction:
     if not HOST_NAME.fullmatch(wanted.host):
         raise CantDo(f"--host: {wanted.host!r} is no name of a host")
     made = auctions.place(name)
+    with new_room(auctions, made) as room:
+        fill(room, text, ports_for(auctions), wanted)
+    return made
+
+
+@contextlib.contextmanager
+def new_room(auctions: Auctions, made: Auction) -> Iterator[pathlib.Path]:
+    """A folder in which an auction is made. At the end it gets the auction's name, unless something fails: then it is removed."""
     os.umask(0o077)
-    with auctions.changing():
+    with locked(auctions.folder):
         if os.path.lexists(made.folder):
             raise CantDo(f"{made.folder} is there already")
-        room = auctions.folder / f".{name}.new"
+        room = auctions.folder / f".{made.name}.new"
         shutil.rmtree(room, ignore_errors=True)
         try:
             room.mkdir(mode=0o700)
-            fill(room, text, ports_for(auctions), wanted)
-            os.rename(room, made.folder)
-            sync(auctions.folder)
+            yield room
+            sync(room)
+            give_name(room, made.folder)
         except BaseException as fault:
             shutil.rmtree(room, ignore_errors=True)
             if isinstance(fault, OSError):
                 raise CantDo(f"{fault.filename or room}: {fault.strerror}") from None
             raise
-    return made
 
 
 def fill(room: pathlib.Path, text: str, ports: dict[str, int], wanted: Wanted) -> None:
@@ -86,12 +96,11 @@ def fill(room: pathlib.Path, text: str, ports: dict[str, int], wanted: Wanted) -
     ran = run([*words, "-addext", alternative, "-keyout", str(room / "front.key"), "-out", str(room / "front.pem")])
     if ran.returncode:
         raise CantDo(f"openssl makes no certificate: {ran.stderr.strip()}")
-    write(room / CONFIGURATION, configuration(room / "auction.hpb", ports, wanted))
+    put(room / CONFIGURATION, configuration(room / "auction.hpb", ports, wanted).encode())
     try:
         Config(room / CONFIGURATION).token_file().make()
     except Wrong as fault:
         raise CantDo(str(fault)) from None
-    sync(room)
 
 
 def run(words: list[str], text: str = "") -> "subprocess.CompletedProcess[str]":
@@ -113,7 +122,7 @@ def configuration(file: pathlib.Path, ports: dict[str, int], wanted: Wanted) -> 
     lines = [
         'file = "auction.hpb"', 'record = "auction.record"', 'tokens = "auction.tokens"', f'listen = "{shown}:{port}"',
         'certificate = "front.pem"', 'key = "front.key"', *([] if wanted.program == "hpb" else [f"program = {json.dumps(wanted.program)}"]),
-        "", "[names]", f'{desk} = "auctioneer"', *(f'{bidder} = ["{bidder}"]' for bidder in bidders),
+        'control = "front.control"', "", "[names]", f'{desk} = "auctioneer"', *(f'{bidder} = ["{bidder}"]' for bidder in bidders),
         "", "[limits]", "after_end_seconds = 3600",
         "", "[board]", f'listen = "{shown}:{ports["board"]}"', f'names = ["{wanted.host}"]',
     ]
@@ -137,22 +146,6 @@ def ports_for(auctions: Auctions) -> dict[str, int]:
         if not taken & set(ports.values()):
             return ports
     raise CantDo(f"{auctions.folder} has {MOST_AUCTIONS:,} auctions already")
-
-
-def write(path: pathlib.Path, text: str) -> None:
-    with path.open("x", encoding="utf-8") as file:
-        file.write(text)
-        file.flush()
-        os.fsync(file.fileno())
-
-
-def sync(folder: pathlib.Path) -> None:
-    """The names in a folder are on the disk from then on."""
-    file = os.open(folder, os.O_RDONLY | os.O_DIRECTORY)
-    try:
-        os.fsync(file)
-    finally:
-        os.close(file)
 
 
 # The definition.

@@ -5,14 +5,14 @@ import re
 from collections.abc import Sequence
 from dataclasses import asdict, dataclass
 
-from hpb.auctions.folder import Auction
+from hpb.auctions.folder import MOVING, Auction
 from hpb.file import read_image
 from hpb.lines import Shown, parse_answer
 from hpb.program import Copy
 from hpb.refusals import HpbError
 
 SECONDS = 5.0
-STOPPED, RUNNING, STARTING, OVER, FAULT = "stopped", "running", "starting", "over", "?"
+STOPPED, RUNNING, STARTING, OVER, MOVED, FAULT = "stopped", "running", "starting", "over", "moving", "?"
 SAMPLE = re.compile(r"^(hpb_(?:auction|front)_[a-z_]+) (\S+)$", re.MULTILINE)
 COLUMNS = ("NAME", "STATE", "LISTEN", "ROUND", "COUNT", "")
 
@@ -36,6 +36,8 @@ def status_of(auction: Auction, program: str) -> Status:
     """The state of an auction. One that runs is asked for its metrics; of any other the file is read."""
     try:
         listen = auction.addresses()[0]
+        if (auction.folder / MOVING).exists():
+            return Status(auction.name, MOVED, listen, why="its move was interrupted: `move` it again, to the same folder")
         if auction.is_served():
             return of_metrics(auction, listen)
         with Copy(program, read_image(str(auction.path("file")), is_quiet=True)) as copy:

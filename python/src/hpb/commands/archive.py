@@ -15,6 +15,7 @@ docs/VERIFY.md says what that shows. The front has to be stopped: the file may n
 - 1, if something isn't right, or can't be read or written: then there is no folder;
 - 2, if the words are wrong.
 """
+import argparse
 import hashlib
 import pathlib
 import sys
@@ -44,21 +45,19 @@ def read_receipts(paths: list[str]) -> dict[str, Receipt]:
     return found
 
 
-@from_shell
-def main() -> int:
-    """Reads the arguments, and returns the status."""
-    words = parser(__doc__)
-    words.add_argument("folder", metavar="FOLDER", help="the folder to make")
-    words.add_argument("--record", required=True, metavar="FILE", help="the record's first segment")
-    words.add_argument("--file", required=True, metavar="FILE", help="the auction's file")
+class NotMade(HpbError):
+    """There is no bundle. The text says why."""
+
+
+def add_words(words: argparse.ArgumentParser) -> None:
+    """The arguments about checks."""
     words.add_argument("--key", required=True, metavar="KEY", help="the public key of the seals")
     words.add_argument("--authority", metavar="FILE", help="the certificates of the authority that stamps, in PEM")
     words.add_argument("--receipt", action="append", default=[], metavar="FILE", help="a receipt of a bidder")
-    words.add_argument("--program", default="hpb", help="the program to ask (default hpb)")
-    given = words.parse_args()
-    # No copy of the auction's file stays.
-    end_by_signals(_FAILED)
-    folder = pathlib.Path(given.folder)
+
+
+def make(given: argparse.Namespace, folder: pathlib.Path) -> str:
+    """Makes the bundle. Returns the words about each check, and the sum of the list of files. A NotMade says why there is none."""
     try:
         authority = pathlib.Path(given.authority).read_bytes() if given.authority else b""
         checked = archive(
@@ -66,15 +65,31 @@ def main() -> int:
         )
         digest = hashlib.sha256((folder / LIST).read_bytes()).hexdigest()
     except (Missing, NoOpenssl) as fault:
+        raise NotMade(str(fault)) from None
+    except HpbError as fault:
+        raise NotMade(says(fault)) from None
+    except OSError as fault:
+        raise NotMade(f"{fault.filename}: {fault.strerror}") from None
+    return "".join(f"{line}\n" for line in [*checked.findings.said, f"{LIST} {digest}"])
+
+
+@from_shell
+def main() -> int:
+    """Reads the arguments, and returns the status."""
+    words = parser(__doc__)
+    words.add_argument("folder", metavar="FOLDER", help="the folder to make")
+    words.add_argument("--record", required=True, metavar="FILE", help="the record's first segment")
+    words.add_argument("--file", required=True, metavar="FILE", help="the auction's file")
+    add_words(words)
+    words.add_argument("--program", default="hpb", help="the program to ask (default hpb)")
+    given = words.parse_args()
+    # No copy of the auction's file stays.
+    end_by_signals(_FAILED)
+    try:
+        write_out(make(given, pathlib.Path(given.folder)))
+    except NotMade as fault:
         say(fault)
         return _FAILED
-    except HpbError as fault:
-        say(says(fault))
-        return _FAILED
-    except OSError as fault:
-        say(f"{fault.filename}: {fault.strerror}")
-        return _FAILED
-    write_out("".join(f"{line}\n" for line in [*checked.findings.said, f"{LIST} {digest}"]))
     return 0
 
 

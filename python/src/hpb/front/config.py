@@ -41,10 +41,10 @@ LOG_LIMITS = {
     "lines_per_second": (100, 1, 100_000),
 }
 TEXTS = ["file", "record", "tokens", "listen"]
-OPTIONAL_TEXTS = ["program", "certificate", "key"]
+OPTIONAL_TEXTS = ["program", "control", "certificate", "key"]
 FIELDS = {*TEXTS, *OPTIONAL_TEXTS, "port", "plain", "shared_network", "mock", "names", "limits", "board", "log", "rounds", "closing", "information", "seals", "metrics"}
 # Fields that can't change while a front runs; all others are read again at SIGHUP.
-FIXED = ["file", "record", "tokens", "program", "port", "shared_network", "mock", "host", "listen_port", "roles", "board", "log", "plan", "closing", "information", "seals", "metrics"]
+FIXED = ["file", "record", "tokens", "program", "control", "port", "shared_network", "mock", "host", "listen_port", "roles", "board", "log", "plan", "closing", "information", "seals", "metrics"]
 METRICS_LIBRARY = "prometheus_client"
 # The kinds of log lines that strangers can cause.
 STRANGERS = ["connection", "token", "ended", "page"]
@@ -161,6 +161,7 @@ class Config:
         self.tokens = handed(self.folder, texts["tokens"], "tokens")
         self.host, self.listen_port = read_address(texts["listen"])
         self.program = program_of(self.folder, more.get("program", "hpb"))
+        self.control = str(self.folder / more["control"]) if "control" in more else None
         self.port = whole(given["port"], LEAST_PORT, MOST_PORT, "port") if "port" in given else None
         self.limits = read_limits(table_of(given, "limits", is_needed=False))
         self.board = BoardPlace.read(table_of(given, "board")) if "board" in given else None
@@ -174,7 +175,7 @@ class Config:
         if "seals" in given:
             self.seals = SealsPlace.read(table_of(given, "seals", is_needed=False), self.folder)
             self.roles = {name: role._replace(has_seals=True) for name, role in self.roles.items()}
-        self.certificate, self.key = (handed(self.folder, more[field], field) if field in more else None for field in OPTIONAL_TEXTS[1:])
+        self.certificate, self.key = (handed(self.folder, more[field], field) if field in more else None for field in OPTIONAL_TEXTS[2:])
         self.log = LogPlace.read(table_of(given, "log", is_needed=False), self.folder, f"{texts['record']}.log")
         self.look_at_transport(truth(given, "plain"))
         self.shared_network, self.mock = truth(given, "shared_network"), truth(given, "mock")
@@ -205,6 +206,8 @@ class Config:
             files.append(Kept("key of seals", self.seals.key))
         if self.seals and self.seals.stamps:
             files.append(Kept("certificates of stamps", self.seals.stamps.authority))
+        if self.control:
+            files.append(Kept("control", self.control))
         if "/" in self.program:
             files.append(Kept("program", self.program))
         if self.log.path:

@@ -25,9 +25,10 @@ FORMAT_SECONDS = 60
 HEAD = "# The mock of {}, made by --make-mock: the same names, tokens and clock, on a file of its own.\n"
 
 
-def make_mock(config: Config, path: str, first: str | None) -> Config:
+def make_mock(config: Config, path: str, first: str | None, own: Table | None = None) -> Config:
     """Makes the mock's configuration at `path`, and its auction's file beside it. `first` is when its first round opens; the others follow
-    as in the auction's plan. A Wrong or a Stops says why there is no mock: then nothing was made.
+    as in the auction's plan. `own` are fields that take the place of others. A Wrong or a Stops says why there is no mock: then nothing was
+    made.
     """
     if config.mock:
         raise Wrong(f"{config.path} is the configuration of a mock already")
@@ -36,7 +37,7 @@ def make_mock(config: Config, path: str, first: str | None) -> Config:
         line = definition_line(as_mock(head.definition))
     except Refused as fault:
         raise Wrong(f"file: {config.file}: {fault.brief}") from None
-    text = HEAD.format(os.path.basename(config.path)) + text_of(fields_for(config, read_toml(config.path), path, first))
+    text = HEAD.format(os.path.basename(config.path)) + text_of(fields_for(config, read_toml(config.path), path, first) | (own or {}))
     try:
         with open(path, "x", encoding="utf-8") as file:
             file.write(text)
@@ -60,6 +61,8 @@ def fields_for(config: Config, given: Table, path: str, first: str | None) -> Ta
     fields = {"mock": True, **given, "file": mock_name(given["file"]), "record": mock_name(given["record"])}
     # The mock's own front starts its server.
     fields.pop("port", None)
+    if "control" in given:
+        fields["control"] = mock_name(given["control"])
     if folder != config.folder:
         fields |= {field: whole_path(config, given[field]) for field in ("tokens", "certificate", "key") if field in given}
         if "/" in config.program:

@@ -10,6 +10,7 @@ from hpb.front import clock
 from hpb.front.board import Board
 from hpb.front.clients import MOST_CONNECTIONS, Clients
 from hpb.front.config import Config
+from hpb.front.control import Control
 from hpb.front.core import Setting, effects, events, new_front
 from hpb.front.faults import Stops
 from hpb.front.health import MOST_CONNECTIONS as MOST_WATCHERS
@@ -106,6 +107,8 @@ class Running:
         }
         self.machine.flushes.append(recorder.flush)
         self.begin(recorder.keep_looking())
+        if self.config.control:
+            self.begin(Control(self.config.control, self.machine, self.shell.log).serve())
         self.machine.post(await in_thread(lambda: seals.told(opened(record)) if seals else opened(record)))
 
     async def open_seals(self, record: RecordFile) -> Seals | None:

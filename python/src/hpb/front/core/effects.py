@@ -6,7 +6,7 @@ from collections.abc import Mapping
 from dataclasses import dataclass
 from typing import NamedTuple, TypeAlias
 
-from hpb.record.entries import Entry
+from hpb.record.entries import Entry, Place
 
 Field: TypeAlias = str | int | None
 
@@ -117,6 +117,14 @@ class EmptyBeside:
     """Empties all places beside the record. `BesideEmptied` follows."""
 
 
+@dataclass(frozen=True, slots=True)
+class Frozen:
+    """Commands stand still since an `AskFreeze`: file and record have this `count` of them, and the record is on the disk up to this place."""
+
+    count: int
+    place: Place
+
+
 # Seals.
 
 
@@ -188,5 +196,5 @@ class Finish:
 
 OnClient: TypeAlias = Admit | Shut | Take | Wait | Answer | End | Abort
 OnServer: TypeAlias = StartServer | DropServer | EndServer | Tell
-OnRecord: TypeAlias = Write | PutBeside | FreeBeside | EmptyBeside
+OnRecord: TypeAlias = Write | PutBeside | FreeBeside | EmptyBeside | Frozen
 Effect: TypeAlias = OnClient | OnServer | OnRecord | LookUp | StartBoard | AnswerBoard | Wake | Publish | Say | Note | MustEnd | Finish

@@ -1,7 +1,7 @@
 """How a front ends: it answers the lines that it has, writes the record's last entry, and ends the server, each within its time."""
 from hpb.front.core import clients, sealing
 from hpb.front.core.effects import EndServer, MustEnd, Shut, Wake
-from hpb.front.core.state import For, Phase, Stage
+from hpb.front.core.state import For, Freeze, Phase, Stage
 from hpb.front.core.stepping import Step
 
 # Seconds from the signal to the last answers, to the record's last sync, and to the server's end. Everything after that takes less time
@@ -22,7 +22,8 @@ def stop(step: Step) -> None:
         step.say("it was stopped before clients were let in")
         step.finish()
         return
-    step.set(phase=Phase.ANSWERING, stopped_at=step.front.time)
+    # Lines that a freeze held are answered, too.
+    step.set(phase=Phase.ANSWERING, stopped_at=step.front.time, freeze=Freeze.NONE)
     step.do(Shut(), *(Wake(seconds) for seconds in (LINES_SECONDS, RECORD_SECONDS, LAST_SECONDS)))
     clients.close(step)
 

@@ -193,7 +193,17 @@ class BesideEmptied:
     """All places beside the record are empty."""
 
 
-OfRecord: TypeAlias = RecordOpened | Synced | StandsBeside | BesideEmptied
+@dataclass(frozen=True, slots=True)
+class AskFreeze:
+    """Commands are to stand still, so that file and record can be copied. `Frozen` follows, unless the front ends first."""
+
+
+@dataclass(frozen=True, slots=True)
+class Thaw:
+    """Commands may go on."""
+
+
+OfRecord: TypeAlias = RecordOpened | Synced | StandsBeside | BesideEmptied | AskFreeze | Thaw
 
 # Seals.
 

@@ -12,7 +12,7 @@ from hpb.front.core import clients, desk, news, rounds, sealing, veil
 from hpb.front.core.clock import At
 from hpb.front.core.effects import AnswerBoard, FreeBeside, PutBeside, Tell, Wake
 from hpb.front.core.ledger import WHERE_THE_AUDIT_ENDS, Foreign, Held
-from hpb.front.core.state import FREE, For, Item, Phase, Session, Stage
+from hpb.front.core.state import FREE, For, Freeze, Item, Phase, Session, Stage
 from hpb.front.core.stepping import Step
 from hpb.front.core.values import changed
 from hpb.front.rights import for_server, is_close, is_command, is_of_seals, is_own, refused
@@ -22,7 +22,7 @@ from hpb.record.entries import OK, text_of
 OVER = b" CLOSED "
 ACCEPTS = OK.encode()
 # Looked at for each line.
-STAGE_FREE, ANSWERED, CLOSING = Stage.FREE, Stage.ANSWERED, At.CLOSING
+STAGE_FREE, ANSWERED, CLOSING, UNFROZEN = Stage.FREE, Stage.ANSWERED, At.CLOSING, Freeze.NONE
 # The phases in which clients' lines go to the server.
 SERVES = (Phase.OPEN, Phase.ANSWERING)
 
@@ -160,24 +160,28 @@ def is_judged(session: Session) -> bool:
 
 def is_quiet(step: Step) -> bool:
     """Whether no line waits for those of other sessions, nor will as long as the auctioneer sends none. Then none of its lines waits, no CLOSE is
-    on its way, and none has to be sealed."""
+    on its way, none has to be sealed, and there is no freeze."""
     front = step.front
     name = front.names[front.setting.desk]
     session = front.sessions[name.session]
     is_closing = session.line and is_close(session.line) and is_judged(session)
-    return not (name.items or front.is_held or front.rounds.at is CLOSING or is_closing or sealing.is_due(front))
+    is_frozen = front.freeze is not UNFROZEN
+    return not (name.items or front.is_held or front.rounds.at is CLOSING or is_closing or is_frozen or sealing.is_due(front))
 
 
 def holds(step: Step) -> bool:
     """Whether lines of several sessions wait for one another."""
-    return step.front.rounds.at is CLOSING or gate_of(step) is not None or sealing.is_due(step.front)
+    front = step.front
+    return front.rounds.at is CLOSING or gate_of(step) is not None or front.freeze is not UNFROZEN or sealing.is_due(front)
 
 
 def may_begin(step: Step, item: Item, gate: int | None) -> bool:
     """Whether a line may begin. A CLOSE waits for all commands before it, and those behind it wait for it. Commands wait for the seal of the last
-    close, and so do lines about seals."""
+    close, and so do lines about seals. In a freeze each command waits."""
     if item.refusal is not None or not (is_command(item.line) or is_of_seals(item.line)):
         return True
+    if step.front.freeze is not UNFROZEN and is_command(item.line):
+        return False
     if sealing.is_due(step.front):
         return False
     if gate is None or is_of_seals(item.line):
@@ -199,7 +203,7 @@ def close_by_clock(step: Step, place: int) -> None:
     front, (mine, session) = step.front, desk_of(step)
     if front.rounds.at is not At.CLOSING or place != mine or session.stage is not Stage.FREE or front.phase not in SERVES:
         return
-    if sealing.is_due(front):
+    if sealing.is_due(front) or front.freeze is not UNFROZEN:
         return
     if is_waited_for(step, lambda item: item.round == front.rounds.round):
         return

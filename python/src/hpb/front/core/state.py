@@ -41,6 +41,14 @@ class Phase(enum.IntEnum):
     ENDED = enum.auto()
 
 
+class Freeze(enum.Enum):
+    """Whether commands wait because somebody copies file and record. A freeze is `WANTED` until all that was begun is on the disk."""
+
+    NONE = enum.auto()
+    WANTED = enum.auto()
+    STANDS = enum.auto()
+
+
 @dataclass(frozen=True)
 class Setting:
     """The parts of a front that stay the same while it runs. `sessions` counts those of names; a board has one more. `record` is the name
@@ -251,6 +259,7 @@ class Front:
     taken: int = 0
     # Whether a CLOSE held lines of other sessions.
     is_held: bool = False
+    freeze: Freeze = Freeze.NONE
     rounds: Rounds = Rounds()
     books: Books = Books()
     news: tuple[News, ...] = ()

@@ -2,12 +2,12 @@
 from collections.abc import Callable, Iterable
 from typing import Any
 
-from hpb.front.core import clients, ending, finding, rounds, sealing, serving, sessions
+from hpb.front.core import clients, ending, finding, freezing, rounds, sealing, serving, sessions
 from hpb.front.core.effects import Effect
 from hpb.front.core.events import (
-    Answered, BesideEmptied, BoardAsks, BoardUp, Came, ClockRead, Event, Failed, Gone, Line, LinesEnded, LookedUp, Opened, RecordOpened,
-    Reloaded, ServerEnded, ServerFailed, ServerGone, ServerUp, SessionOpened, Stamped, StandsBeside, Stop, Stuffed, Synced, Tick, TooLong,
-    Unpublished, Waited,
+    Answered, AskFreeze, BesideEmptied, BoardAsks, BoardUp, Came, ClockRead, Event, Failed, Gone, Line, LinesEnded, LookedUp, Opened,
+    RecordOpened, Reloaded, ServerEnded, ServerFailed, ServerGone, ServerUp, SessionOpened, Stamped, StandsBeside, Stop, Stuffed, Synced, Thaw,
+    Tick, TooLong, Unpublished, Waited,
 )
 from hpb.front.core.state import Front, Phase, Stage
 from hpb.front.core.stepping import Step
@@ -47,6 +47,7 @@ def go_on(step: Step, event: Event) -> None:
             sessions.go_on_quietly(step, sorted(step.touched))
     else:
         go_on_held(step, event)
+        freezing.go_on(step)
     if step.front.phase < OPEN:
         finding.go_on(step)
     elif step.front.phase > OPEN:
@@ -54,7 +55,7 @@ def go_on(step: Step, event: Event) -> None:
 
 
 def go_on_held(step: Step, event: Event) -> None:
-    """The same, while a CLOSE may hold lines of all sessions."""
+    """The same, while a CLOSE or a freeze may hold lines of all sessions."""
     was_held, is_held = step.front.is_held, sessions.holds(step)
     is_for_all = is_held or was_held or type(event) is Synced
     sessions.go_on(step, range(len(step.front.sessions)) if is_for_all else sorted(step.touched))
@@ -110,6 +111,8 @@ TAKE: dict[type[Event], Callable[[Step, Any], None]] = {
     Synced: take_synced,
     StandsBeside: lambda step, event: sessions.take_beside(step, event.places),
     BesideEmptied: lambda step, event: finding.take_emptied(step),
+    AskFreeze: lambda step, event: freezing.begin(step),
+    Thaw: lambda step, event: freezing.end(step),
     LookedUp: lambda step, event: sealing.take_found(step, event),
     Stamped: lambda step, event: sealing.take_stamp(step, event),
     Reloaded: lambda step, event: clients.reload(step, event),
