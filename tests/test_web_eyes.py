@@ -1,5 +1,6 @@
-"""The site's pages in a Chromium, for eyes, ears and hands: contrast, names and roles, the keyboard alone, forced colours and paper; and what a page of
-another site can do there.
+"""The site's pages in a Chromium, for eyes, ears and hands: contrast, names and roles, the keyboard alone, forced colours and paper.
+
+A page of another site can do nothing there.
 
 With PICTURES, a folder, each page is photographed there.
 """

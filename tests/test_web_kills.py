@@ -1,6 +1,6 @@
 """Bidders on pages and by programs in one auction, while server, front, site and network are killed again and again.
 
-Each draft of a page ends as accepted, refused, or never accepted. What was accepted is in file and record once, and nothing else is.
+Each draft of a page ends as accepted, refused, or never accepted. File and record have each accepted command once, and nothing else.
 """
 
 from __future__ import annotations
@@ -75,7 +75,7 @@ def _pass_on(one: socket.socket, other: socket.socket) -> None:
 
 @dataclass
 class Taken:
-    """What bidders were told: the line of each accepted number, and how each draft of a page ended."""
+    """The answers that bidders got: the line of each accepted number, and how each draft of a page ended."""
 
     lines: dict[int, str] = field(default_factory=dict)
     ends: list[str] = field(default_factory=list)
@@ -88,7 +88,7 @@ class Taken:
             self.lines[number] = line
 
 
-def by_program(site: Web, number: int, rounds: int, taken: Taken, wait_for_round: Callable[[int], None]) -> None:
+def by_program(site: Web, number: int, rounds: int, taken: Taken, wait_for_round: Callable[[int], object]) -> None:
     """A bidder by `/v1`: it sends each command until it is answered."""
     for round_ in range(1, rounds + 1):
         wait_for_round(round_)
@@ -190,7 +190,7 @@ def again(one: Front | Web) -> None:
 def bid_over_kills(front: Front, site: Web, wire: Wire, bidders: int, rounds: int) -> None:
     """Half of the bidders are on pages. Each round is closed once all have bid; meanwhile something is killed all the time."""
     taken, over = Taken(), threading.Event()
-    kills = itertools.cycle([wire.cut, lambda: os.kill(front.child("serve"), signal.SIGKILL), lambda: again(site), lambda: again(front)])
+    kills: Iterator[Callable[[], None]] = itertools.cycle([wire.cut, lambda: os.kill(front.child("serve"), signal.SIGKILL), lambda: again(site), lambda: again(front)])
     gates = [threading.Event() for _ in range(rounds)]
     people = [OnPages(site, number, taken) for number in range(1, bidders // 2 + 1)]
 
@@ -209,7 +209,7 @@ def bid_over_kills(front: Front, site: Web, wire: Wire, bidders: int, rounds: in
     with ThreadPoolExecutor(bidders + 1) as pool:
         killing = pool.submit(kill)
         tasks = [pool.submit(on_pages, one) for one in people]
-        tasks += [pool.submit(by_program, site, number, rounds, taken, lambda round_: bool(gates[round_ - 1].wait())) for number in range(bidders // 2 + 1, bidders + 1)]
+        tasks += [pool.submit(by_program, site, number, rounds, taken, lambda round_: gates[round_ - 1].wait()) for number in range(bidders // 2 + 1, bidders + 1)]
         try:
             for round_ in range(1, rounds + 1):
                 gates[round_ - 1].set()
@@ -231,7 +231,7 @@ def close(site: Web, round_: int, taken: Taken) -> None:
 
 
 def look(front: Front, taken: Taken) -> None:
-    """The record has what was accepted, each once and in order, and so has the file."""
+    """The record has each accepted command once and in order, and so has the file."""
     assert set(taken.ends) <= {"never", *(f"{number:,}" for number in taken.lines)}
     wanted = [(taken.lines[number], f"OK {number}") for number in sorted(taken.lines)]
     assert front.accepted() == wanted and sorted(taken.lines) == list(range(1, len(wanted) + 1))

@@ -91,7 +91,7 @@ def look_at_ways_out(ann: Person) -> None:
         status = ann.ask("GET", path)
         assert status in (200, 303, 400, 404) and ann.fields.get("Location", "/") in ("/", "/bid", "/signin"), (path, status, ann.fields)
         assert "evil.example" not in ann.text or path not in ann.text, path
-    assert ann.ask("GET", "/bid", **{"X-Forwarded-Host": "evil.example"}) == 200 and "evil.example" not in ann.text
+    assert ann.ask("GET", "/bid", None, **{"X-Forwarded-Host": "evil.example"}) == 200 and "evil.example" not in ann.text
 
 
 def look_at_markup(ann: Person, desk: Person) -> None:
@@ -117,7 +117,7 @@ def look_at_markup(ann: Person, desk: Person) -> None:
 def look_at_fields(ann: Person) -> None:
     """No answer is kept, framed, or taken for another kind. None says which program made it."""
     for path in (*PERSONAL, "/site.css"):
-        ann.ask("GET", path, **({"Authorization": f"Bearer {token_of('ann')}"} if path.startswith("/v1/") else {}))
+        ann.ask("GET", path, form=None, **({"Authorization": f"Bearer {token_of('ann')}"} if path.startswith("/v1/") else {}))
         fields = ann.fields
         assert fields["Cache-Control"] == "no-store" and "ETag" not in fields and "Last-Modified" not in fields, path
         assert fields["X-Frame-Options"] == "DENY" and "frame-ancestors 'none'" in fields["Content-Security-Policy"], path

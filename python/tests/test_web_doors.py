@@ -19,7 +19,7 @@ from hpb.web.server import serve
 from web_front import Front
 from web_site import SECONDS, config_of, run
 
-# The most that the system keeps of what was written to a connection.
+# The most bytes of a connection that the system holds until they are sent.
 MOST_OF_SYSTEM = int(pathlib.Path("/proc/sys/net/ipv4/tcp_wmem").read_text().split()[2])
 OPENAPI = b"GET /v1/openapi.json HTTP/1.1\r\nHost: localhost\r\n\r\n"
 

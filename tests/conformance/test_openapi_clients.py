@@ -33,7 +33,7 @@ class Caller:
         """Status and document of the answer to a call of a name, in which nothing may be otherwise than described."""
         assert self.process.stdin and self.process.stdout
         self.used.add(operation)
-        step = {"operation": operation, "token": token_of(name) if name else "", **more}
+        step: dict[str, object] = {"operation": operation, "token": token_of(name) if name else "", **more}
         self.process.stdin.write(json.dumps(step) + "\n")
         self.process.stdin.flush()
         found = json.loads(self.process.stdout.readline())
@@ -98,8 +98,8 @@ def first_round(caller: Caller) -> None:
 
 def refusals(caller: Caller) -> None:
     """Refusals of the auction, of the front and of the site."""
-    bid = {"kind": "bid", "bidder": "x", "node": "a", "amount": 160, "ticket": 2, "round": 2}
-    rows = [
+    bid: dict[str, object] = {"kind": "bid", "bidder": "x", "node": "a", "amount": 160, "ticket": 2, "round": 2}
+    rows: list[tuple[str, dict[str, object], tuple[int, str]]] = [
         ("ann", {"amount": 155}, (422, "step")), ("ann", {"amount": 100}, (422, "low")), ("ann", {"amount": 999_999_999_990}, (422, "high")),
         ("ann", {"node": "nowhere"}, (404, "node")), ("ann", {"ticket": 3}, (409, "gap")), ("ann", {"ticket": 1, "round": 2}, (409, "ticket")),
         ("ann", {"round": 1}, (409, "round")), ("ann", {"bidder": "y"}, (403, "rights")), ("public", {}, (403, "rights")), ("", {}, (401, "token")),
@@ -130,7 +130,7 @@ def desk_and_news(caller: Caller) -> None:
 
 def the_end(caller: Caller, site: Web) -> None:
     """A close that ends the auction says so, and both rounds are kept."""
-    wait_until(lambda: caller.call("public", "rounds")[1]["rounds"] != [], SECONDS, "the first round is kept")
+    wait_until(lambda: bool(caller.call("public", "rounds")[1]["rounds"]), SECONDS, "the first round is kept")
     assert caller.command("desk", kind="close", ticket=2) == (409, "end")
     assert caller.command("desk", kind="close", ticket=2, ending=True) == (200, 6)
     wait_until(lambda: len(caller.call("public", "rounds")[1]["rounds"]) == 2, SECONDS, "the last round is kept")

@@ -49,7 +49,7 @@ def copy_over(source: Auction, target: Auction) -> None:
     (source.folder / TO).unlink(missing_ok=True)
     copy_tree(source.folder, room)
     if differing := difference(source.folder, room):
-        raise CantDo(f"{room / differing} isn't what was copied: look at the disk of {target.folder.parent}")
+        raise CantDo(f"{room / differing} differs from its original: look at the disk of {target.folder.parent}")
     put(source.folder / TO, os.fsencode(target.folder))
     os.rename(source.configuration, source.folder / MOVING)
     sync(source.folder)

@@ -1,5 +1,9 @@
-"""Limits connections before a request is read: how many there may be, how long the head of the first request may take, how many requests may
-wait behind the one that is answered, and how long a reader may take nothing.
+"""Limits connections before a request is read:
+
+- how many there may be;
+- how long the head of the first request may take;
+- how many requests may wait behind the one that is answered;
+- how long a reader may take nothing.
 """
 import asyncio
 import collections

@@ -36,7 +36,7 @@ _ESCAPED: Final = ',+"\\<>;='
 
 
 class NotUsable(HpbError):
-    """The file of secrets can't be used, or what was used of it can't be kept."""
+    """The file of secrets is no use, or the last used steps can't be kept."""
 
 
 def code_at(secret: bytes, step: int, digits: int = DIGITS, algorithm: str = "sha1") -> str:

@@ -128,7 +128,7 @@ def _context(config: Config) -> ssl.SSLContext | None:
     context.minimum_version = ssl.TLSVersion.TLSv1_2
     context.load_cert_chain(config.certificate, config.key)
     if config.clients:
-        # Who has no certificate may come, too: only some names need one.
+        # A client without a certificate may come, too: only some names need one.
         context.verify_mode = ssl.CERT_OPTIONAL
         context.load_verify_locations(config.clients)
     return context
