@@ -19,5 +19,5 @@ pub(crate) use marks::{begin, end};
 pub(crate) use started::{
     auction_and_file_sum, came_of, engine, engine_sum, is_sum, opened, opened_sum,
 };
-pub(crate) use sums::{sum_of, sum_of_auction, sum_of_definition};
+pub(crate) use sums::{sum_of, sum_of_auction, sum_of_definition, with_flags, with_numbers};
 pub(crate) use tried::{Tried, auction_came, definition_came, tell};

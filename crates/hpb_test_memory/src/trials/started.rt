@@ -1,6 +1,6 @@
 //! An opened device, an engine over it, and their sums.
 
-use super::{Came, file_sum, formatted, sum_of, sum_of_auction};
+use super::{Came, file_sum, formatted, sum_of, sum_of_auction, with_flags, with_numbers};
 use anyhow::{Error, Result, bail};
 use hpb_auction::Auction;
 use hpb_disk::{Disk, FileDisk};
@@ -40,8 +40,8 @@ pub(crate) fn auction_and_file_sum(rt: &HostRuntime, auction: &Auction) -> Optio
     }
 }
 
-/// The plan of an opened device, beside its auction.
-fn plan_text(alloc: Global, plan: &Plan) -> Result<String, AllocError> {
+/// The sum of an opened device's plan, beside its auction.
+fn plan_sum(alloc: Global, plan: &Plan) -> Result<u64, AllocError> {
     let Plan {
         frames,
         slot,
@@ -52,24 +52,27 @@ fn plan_text(alloc: Global, plan: &Plan) -> Result<String, AllocError> {
         gates,
         ..
     } = plan;
-    format!(in alloc; "{frames:?} {slot:?} {other_open} {covered} {next} {clean_end} {gates:?}")
+    let names = format!(in alloc; "{frames:?} {slot:?}")?;
+    let numbers = [*other_open as u64, *covered, *next, *clean_end];
+    let sum = with_numbers(sum_of(names.as_bytes()), &numbers);
+    Ok(with_flags(sum, gates))
 }
 
-/// The sum of an auction, of the file, and of a text.
-fn sum_with(rt: &HostRuntime, auction: &Auction, text: &Result<String, AllocError>) -> Option<u64> {
-    match (auction_and_file_sum(rt, auction), text) {
-        (Some(sum), Ok(text)) => Some(sum.wrapping_add(sum_of(text.as_bytes()))),
+/// The sum of an auction, of the file, and of what stands beside them.
+fn sum_with(rt: &HostRuntime, auction: &Auction, beside: Result<u64, AllocError>) -> Option<u64> {
+    match (auction_and_file_sum(rt, auction), beside) {
+        (Some(sum), Ok(beside)) => Some(sum.wrapping_add(beside)),
         _ => None,
     }
 }
 
 /// The sum of all that opening gave, and of the file.
 pub(crate) fn opened_sum(rt: &HostRuntime, opened: &Opened<FileDisk>) -> Option<u64> {
-    sum_with(rt, opened.auction(), &plan_text(rt.alloc(), &opened.plan))
+    sum_with(rt, opened.auction(), plan_sum(rt.alloc(), &opened.plan))
 }
 
-/// The numbers of an engine's journal.
-fn window_text(alloc: Global, window: &Window) -> Result<String, AllocError> {
+/// The sum of an engine's journal.
+fn window_sum(alloc: Global, window: &Window) -> Result<u64, AllocError> {
     let Window {
         frames,
         covered,
@@ -78,11 +81,14 @@ fn window_text(alloc: Global, window: &Window) -> Result<String, AllocError> {
         opened_at,
         gates,
     } = window;
-    format!(in alloc; "{frames:?} {covered} {next} {clean_end} {opened_at} {gates:?}")
+    let names = format!(in alloc; "{frames:?}")?;
+    let numbers = [*covered, *next, *clean_end, *opened_at];
+    let sum = with_numbers(sum_of(names.as_bytes()), &numbers);
+    Ok(with_flags(sum, gates))
 }
 
-/// The numbers of an engine's checkpoint, and of its retirement of frames.
-fn checkpoint_text(alloc: Global, progress: &Progress) -> Result<String, AllocError> {
+/// The sum of an engine's checkpoint, and of its retirement of frames.
+fn checkpoint_sum(alloc: Global, progress: &Progress) -> Result<u64, AllocError> {
     let Checkpoint {
         newest,
         other_open,
@@ -91,27 +97,40 @@ fn checkpoint_text(alloc: Global, progress: &Progress) -> Result<String, AllocEr
         body,
     } = &progress.checkpoint;
     let Retirement { going, upto } = &progress.retirement;
-    let body = sum_of(body);
-    format!(in alloc; "{newest:?} {other_open} {steps} {covers} {body} {going} {upto}")
+    let names = format!(in alloc; "{newest:?}")?;
+    let numbers = [
+        *other_open as u64,
+        u64::from(*steps),
+        *covers,
+        sum_of(body),
+        *going as u64,
+        *upto,
+    ];
+    Ok(with_numbers(sum_of(names.as_bytes()), &numbers))
 }
 
-/// The numbers of an engine, beside the auction that it has committed.
-fn engine_text(alloc: Global, engine: &Engine<FileDisk>) -> Result<String, AllocError> {
+/// The sum of an engine, beside the auction that it has committed.
+fn beside_sum(alloc: Global, engine: &Engine<FileDisk>) -> Result<u64, AllocError> {
     let Engine {
         progress,
         failed,
         ..
     } = engine;
     let Commit { busy, turns, .. } = &progress.commit;
-    let working = sum_of_auction(alloc, &progress.commit.working)?;
-    let window = window_text(alloc, &progress.window)?;
-    let checkpoint = checkpoint_text(alloc, progress)?;
-    format!(in alloc; "{window} {checkpoint} {busy} {turns} {working} {failed}")
+    let numbers = [
+        window_sum(alloc, &progress.window)?,
+        checkpoint_sum(alloc, progress)?,
+        *busy as u64,
+        u64::from(*turns),
+        sum_of_auction(alloc, &progress.commit.working)?,
+        *failed as u64,
+    ];
+    Ok(with_numbers(sum_of(&[]), &numbers))
 }
 
 /// The sum of an engine at rest, and of the file.
 pub(crate) fn engine_sum(rt: &HostRuntime, engine: &Engine<FileDisk>) -> Option<u64> {
-    sum_with(rt, engine.committed(), &engine_text(rt.alloc(), engine))
+    sum_with(rt, engine.committed(), beside_sum(rt.alloc(), engine))
 }
 
 /// Whether a sum is there and equals the given one.

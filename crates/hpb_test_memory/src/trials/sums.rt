@@ -27,6 +27,24 @@ pub(crate) fn sum_of(bytes: &[u8]) -> u64 {
     sum
 }
 
+/// A sum that goes on with these numbers.
+pub(crate) fn with_numbers(sum: u64, numbers: &[u64]) -> u64 {
+    let mut sum = sum;
+    for number in numbers {
+        sum = (sum ^ *number).wrapping_mul(PRIME);
+    }
+    sum
+}
+
+/// A sum that goes on with these flags.
+pub(crate) fn with_flags(sum: u64, flags: &[bool]) -> u64 {
+    let mut sum = sum;
+    for flag in flags {
+        sum = (sum ^ *flag as u64).wrapping_mul(PRIME);
+    }
+    sum
+}
+
 /// The sum of a definition: that of the head that keeps the definition.
 pub(crate) fn sum_of_definition(alloc: Global, definition: &Definition) -> Result<u64, AllocError> {
     let mut head = vec![in alloc; 0; HEAD_SIZE]?;
