@@ -100,7 +100,7 @@ def refusals(caller: Caller) -> None:
     """Refusals of the auction, of the front and of the site."""
     bid: dict[str, object] = {"kind": "bid", "bidder": "x", "node": "a", "amount": 160, "ticket": 2, "round": 2}
     rows: list[tuple[str, dict[str, object], tuple[int, str]]] = [
-        ("ann", {"amount": 155}, (422, "step")), ("ann", {"amount": 100}, (422, "low")), ("ann", {"amount": 999_999_999_990}, (422, "high")),
+        ("ann", {"amount": 155}, (422, "step")), ("ann", {"amount": 100}, (422, "low")), ("ann", {"amount": 1_000_000_000_010}, (422, "high")),
         ("ann", {"node": "nowhere"}, (404, "node")), ("ann", {"ticket": 3}, (409, "gap")), ("ann", {"ticket": 1, "round": 2}, (409, "ticket")),
         ("ann", {"round": 1}, (409, "round")), ("ann", {"bidder": "y"}, (403, "rights")), ("public", {}, (403, "rights")), ("", {}, (401, "token")),
         ("ann", {"node": "all", "amount": 550}, (409, "eligibility")),
