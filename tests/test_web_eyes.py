@@ -19,6 +19,7 @@ from boards import RULES, Running, Tools
 from fronts import Front, make_certificate
 from harness.programs import Program
 from harness.serving import ADDRESS, free_port, wait_until
+from selenium.webdriver.common.action_chains import ActionChains
 from selenium.webdriver.common.by import By
 from selenium.webdriver.common.keys import Keys
 from sites_of_web import SECONDS, Web
@@ -117,7 +118,7 @@ def look(driver: Driver, name: str) -> None:
 def reach(driver: Driver, holds: str) -> Any:
     """Presses Tab until what has the keyboard is this, and can be seen."""
     for _ in range(60):
-        driver.switch_to.active_element.send_keys(Keys.TAB)
+        ActionChains(driver).send_keys(Keys.TAB).perform()
         if driver.execute_script(f"const one = document.activeElement; return {holds}"):
             at = "const at = document.activeElement.getBoundingClientRect(); return at.top >= 0 && at.bottom <= innerHeight && getComputedStyle(document.activeElement).outlineStyle !== 'none'"
             assert driver.execute_script(at), holds

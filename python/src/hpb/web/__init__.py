@@ -7,6 +7,7 @@ front has limited the answers to what that name may know.
   lines, and answers documents.
 - `html`, `bidding`, `desk`: the words and forms of the pages.
 - `resources`: the questions of each path of `/v1`, and the document that the answers make.
+- `factors`: codes and certificates, besides tokens.
 - `links`, `names`: connections to the front, one for each token. `drafts`, `sending`: commands of pages, each sent once. `following`,
   `keeping`, `results`: changes as events, and the results of closed rounds.
 - `walls`, `api`, `pages`, `acting`, `server`: the shells of aiohttp.

@@ -50,8 +50,9 @@ def needs(point: Standpoint) -> Markup:
     if not point.who.eligibility:
         return notice("No eligibility is left: it can't bid any more.", "bad")
     if not point.short:
-        room = point.who.eligibility - point.who.activity
-        return notice(f"Enough: a close now leaves the eligibility as it is. There is room for {counted(max(0, room), 'unit')} more.", "good")
+        room = max(0, point.who.eligibility - point.who.activity)
+        told = f"There is room for {counted(room, 'unit')} more." if room else "There is no room for more units."
+        return notice(f"Enough: a close now leaves the eligibility as it is. {told}", "good")
     kept = point.keeping()
     begin = f"{counted(point.short, 'unit')} short. "
     if point.has_others:

@@ -74,6 +74,8 @@ class Drafts:
     def __init__(self, path: pathlib.Path | None = None) -> None:
         """Reads the file, which is made if there is none. If it can't be read, `NotKept` is raised. A last line that isn't whole is left out."""
         self._known: dict[tuple[str, Command], Draft] = {}
+        # By name, those that were refused or never accepted, the oldest one first.
+        self._refused: dict[str, dict[Command, None]] = {}
         self._file: int | None = None
         self._lock = asyncio.Lock()
         if path is None:
@@ -93,10 +95,13 @@ class Drafts:
     def _take(self, draft: Draft) -> None:
         self._known.pop((draft.name, draft.command), None)
         self._known[draft.name, draft.command] = draft
+        refused = self._refused.setdefault(draft.name, {})
+        refused.pop(draft.command, None)
         if draft.state in (REFUSED, NEVER):
-            refused = [key for key, one in self._known.items() if one.name == draft.name and one.state in (REFUSED, NEVER)]
-            for key in refused[:-MOST_REFUSED]:
-                del self._known[key]
+            refused[draft.command] = None
+            if len(refused) > MOST_REFUSED:
+                oldest = next(iter(refused))
+                del refused[oldest], self._known[draft.name, oldest]
 
     def find(self, name: str, command: Command) -> Draft | None:
         """The draft of a name with this command."""

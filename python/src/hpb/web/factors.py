@@ -50,14 +50,14 @@ def read_secrets(path: pathlib.Path) -> dict[str, bytes]:
     """The secrets in a file: a line for each name, with the name and its secret in base 32. Others may not read the file, else `NotUsable`."""
     try:
         with open(path, encoding="ascii") as file:
-            mode = os.fstat(file.fileno()).st_mode
+            status = os.fstat(file.fileno())
             lines = [line.split() for line in file if line.strip()]
     except OSError as fault:
         raise NotUsable(f"codes: {path}: {fault.strerror}") from None
     except UnicodeDecodeError:
         raise NotUsable(f"codes: {path} isn't a list of secrets") from None
-    if not stat.S_ISREG(mode) or stat.S_IMODE(mode) & 0o077:
-        raise NotUsable(f"codes: {path}: others may read it; `chmod 600` it")
+    if not stat.S_ISREG(status.st_mode) or stat.S_IMODE(status.st_mode) & 0o077 or status.st_uid not in (os.geteuid(), 0):
+        raise NotUsable(f"codes: {path}: others may read it; `chmod 600` it, and own it")
     found = dict[str, bytes]()
     for number, line in enumerate(lines, 1):
         if len(line) != 2 or not NAME.fullmatch(line[0]) or line[0] in found:

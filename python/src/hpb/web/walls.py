@@ -101,7 +101,7 @@ def look(request: web.Request, hosts: Collection[str]) -> None:
         raise problem("host")
     if request.headers.getall("Transfer-Encoding", []) or (request.method == "POST" and len(request.headers.getall("Content-Length", [])) != 1):
         raise problem("length")
-    if request.headers.getall("Content-Encoding", []):
+    if request.method == hdrs.METH_POST and request.headers.getall("Content-Encoding", []):
         raise problem("type", "a body has no coding here")
     if request.method == hdrs.METH_CONNECT or "websocket" in ",".join(request.headers.getall("Upgrade", [])).lower():
         raise problem("method", "there is no other protocol here")
