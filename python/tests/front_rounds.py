@@ -30,7 +30,7 @@ class Kept(enum.Enum):
     NEVER_EARLY = "No round ends before the time that was announced last."
     OF_ITS_ROUND = "No command is judged in another round than the one it was taken in."
     BOUND = "A command with IN r is judged in round r alone."
-    TAKEN_IN_TIME = "What was taken before the time is judged, and what comes behind it is refused."
+    TAKEN_IN_TIME = "A line that was taken before the time is judged, and one that comes after it is refused."
     ABSENCE_TOLD = "If the front was away when a round was to end, the round is paused, and doesn't end without the auctioneer."
     TIME_GIVEN_BACK = "A round gets all the time back that a pause took from it."
     NO_SLIP = "No close ends the auction unless it says so, or the plan does."
