@@ -8,6 +8,7 @@ import os
 import re
 import shutil
 import subprocess
+import textwrap
 from collections.abc import Sequence
 from pathlib import Path
 
@@ -67,63 +68,49 @@ def test_a_bundle_is_checked_from_its_folder_alone_as_its_readme_says(over: Fron
     assert made.returncode == 0, made
     bundle = Path(shutil.move(tmp_path / "made", tmp_path / "given"))
     assert made.stdout.splitlines()[-1] == f"SHA256SUMS {hashlib.sha256((bundle / 'SHA256SUMS').read_bytes()).hexdigest()}"
-    run(["sha256sum", "--quiet", "-c", "SHA256SUMS"], bundle)
     readme = (bundle / "README.md").read_text()
-    for command in ("python3 hpb-verify.pyz .", "node verify.mjs ."):
-        assert f"    {command}\n" in readme
-        told = run([shutil.which(word) or word if place == 0 else word for place, word in enumerate(command.split())], bundle)
-        assert told.endswith("All of this is right.\n") and "FOUND" not in told
-    look_by_hand(bundle)
-    # A round a page, whose sums add up.
-    pages = sorted(path.name for path in (bundle / "rounds").iterdir())
-    assert pages == ["round-1.html", "round-2.html", "round-3.html"]
-    page = (bundle / "rounds" / "round-1.html").read_text()
-    assert "a 100 + b 150 = 250" in page.replace("<wbr>", "") and "Not right" not in page
+    _, _, at_once, line, program, *by_hand = blocks(readme)
+    for command in at_once.splitlines():
+        told = run(["bash", "-euc", command.replace("node ", f"{shutil.which('node')} ")], bundle)
+        assert told == "" if "sha256sum" in command else told.endswith("All of this is right.\n") and "FOUND" not in told
+    look_at_commands(bundle, [line, *by_hand])
+    assert run(["python3", "-I", "-c", program], bundle) == f"{len((bundle / 'auction.record').read_text().splitlines())} entries and all roots are right\n"
+    look_at_pages(bundle, readme)
     # The report names record, file and seals.
     (bundle / "report.html").write_text((bundle / "report.html").read_text().replace(hashlib.sha256((bundle / "auction.hpb").read_bytes()).hexdigest(), "0" * 64))
     assert "FOUND report 0\n" in run(["python3", "hpb-verify.pyz", "."], bundle, 1)
 
 
-def look_by_hand(bundle: Path) -> None:
-    """The steps of the README without its programs."""
-    lines = (bundle / "auction.record").read_text().splitlines()
-    before = "0" * 64
-    for number, line in enumerate(lines, 1):
-        entry = json.loads(line[65:])
-        assert line[:64] == hashlib.sha256(line[65:].encode()).hexdigest() and (entry["entry"], entry["before"]) == (number, before)
-        before = line[:64]
-    entry = next(json.loads(line[65:]) for line in lines if '"kind":"seal"' in line)
-    (bundle / "STATEMENT").write_text(entry["seal"])
-    (bundle / "SIGNATURE").write_bytes(bytes.fromhex(entry["signature"]))
-    command = "openssl pkeyutl -verify -pubin -inkey key.pem -rawin -in STATEMENT -sigfile SIGNATURE"
-    assert command in (bundle / "README.md").read_text()
-    run(command.split(), bundle)
-    said = dict(re.findall(r"([A-Z]+) (\S+)", entry["seal"]))
-    assert hashlib.sha256("".join(f"{line}\n" for line in [entry["salt"], *entry["answers"]]).encode()).hexdigest() == said["STATE"]
-    assert hashlib.sha256((bundle / "definition.json").read_bytes()).hexdigest() == said["DEFINITION"]
-    assert root_of([bytes.fromhex(line[:64]) for line in lines[: int(said["ENTRIES"])]]) == said["ROOT"]
-    shown = run(["openssl", "ts", "-reply", "-in", "stamps/seal-1.token", "-token_in", "-text"], bundle)
-    time = re.findall("^Time stamp: (.*)$", shown, re.MULTILINE)[0]
-    seconds = run(["date", "-d", time, "+%s"], bundle).strip()
-    command = "openssl ts -verify -data stamps/seal-1.txt -in stamps/seal-1.token -token_in -CAfile authority.pem -attime SECONDS"
-    assert command in (bundle / "README.md").read_text()
-    run(command.replace("SECONDS", seconds).split(), bundle)
-    for name in ("STATEMENT", "SIGNATURE"):
-        (bundle / name).unlink()
+def blocks(page: str) -> list[str]:
+    """The commands and programs of a page: its indented blocks."""
+    found = re.findall(r"(?<=\n\n)((?: {7}| {4})\S.*\n(?:(?: {4,}.*)?\n)*)", page)
+    return [textwrap.dedent(block).strip("\n") for block in found]
 
 
-def root_of(leaves: list[bytes]) -> str:
-    """The root by RFC 6962, section 2.1, word for word."""
+def look_at_commands(bundle: Path, by_hand: Sequence[str]) -> None:
+    """Runs the README's commands for a check by hand, as they stand there."""
+    line, signature, sums, stamp = by_hand
+    record = (bundle / "auction.record").read_text().splitlines()
+    assert run(["bash", "-euc", line], bundle) == f"{record[0][:64]}  -\n"
+    assert run(["bash", "-euc", signature], bundle) == "Signature Verified Successfully\n"
+    statement, *told = run(["bash", "-euc", sums], bundle).splitlines()
+    said = dict(re.findall(r"([A-Z]+) (\S+)", statement))
+    assert [line.split()[0] for line in told] == [said["RESULTS"], said["STATE"], said["DEFINITION"]]
+    entry = next(json.loads(line[65:]) for line in record if '"kind":"seal"' in line)
+    assert entry["seal"] == (bundle / "seals/1/statement.txt").read_text()
+    shown, verified = run(["bash", "-euc", stamp], bundle).split("Extensions:")
+    assert "Time stamp: " in shown and verified.endswith("Verification: OK\n")
 
-    def tree(part: list[bytes]) -> bytes:
-        if len(part) == 1:
-            return hashlib.sha256(b"\0" + part[0]).digest()
-        split = 1
-        while 2 * split < len(part):
-            split *= 2
-        return hashlib.sha256(b"\1" + tree(part[:split]) + tree(part[split:])).digest()
 
-    return tree(leaves).hex()
+def look_at_pages(bundle: Path, readme: str) -> None:
+    """A page a round, whose sums add up, and a table in which each file stands."""
+    assert sorted(path.name for path in (bundle / "rounds").iterdir()) == ["round-1.html", "round-2.html", "round-3.html"]
+    page = (bundle / "rounds" / "round-1.html").read_text()
+    assert "a 100 + b 150 = 250" in page.replace("<wbr>", "") and "Not right" not in page
+    listed = re.findall(r"^\| `([^`]+)` \|", readme, re.MULTILINE)
+    for path in bundle.iterdir():
+        name = f"{path.name}/" if path.is_dir() else path.name
+        assert name in listed or name in ("README.md", "state.mjs"), name
 
 
 @pytest.mark.timeout(600)

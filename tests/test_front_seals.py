@@ -12,10 +12,11 @@ import pytest
 from fronts import Caller, Front, StartsNot
 from harness.serving import read_line
 
+from hpb.file import auctions_in, state_of
 from hpb.record import read_record
 from hpb.record.entries import entry_line
 from hpb.seals.receipt import read_receipt
-from hpb.seals.statement import read_signed, results_in, sum_of
+from hpb.seals.statement import read_seal, read_signed, results_sum, sum_of
 
 SEALS = {"seals": {"key": "seal.key"}}
 
@@ -70,14 +71,18 @@ def test_each_close_is_sealed_and_all_may_ask_for_the_seals(sealing: Front) -> N
         assert (seal.number, seal.entries, seal.last) == (number, entry["entry"] - 1, entry["before"])
         assert seal.text == entry["seal"] and seal.at == entry["at"] and seal.key == public_of(sealing)
         assert seal.record == sealing.record.read_text()[:64]
-        assert seal.state == sum_of(entry["salt"], entry["answers"])
-        assert seal.results == sum_of(entry["salt"], results_in(entry["answers"]))
+        assert seal.results == results_sum(entry["salt"], entry["answers"])
         assert entry["answers"][0] == told[2 * number - 2].split(" RECORD ")[0]
         assert sealing.ask("public", f"SEAL {number}").startswith(f"{line} STAMPED - CONSISTENCY ")
     assert [(read_signed(line).seal.round, read_signed(line).seal.count) for line in told[1::2]] == [(1, 3), (2, 4)]
     assert sealing.ask("public", "SEAL") == sealing.ask("ann", "SEAL 2")
     assert sealing.ask("ann", "SEAL 3") == "ERR front unknown" and sealing.ask("ann", "SEAL x") == "ERR front line"
     assert sealing.stop().status == 0
+    # The file went on behind the first close, and still shows the state of both.
+    states = {auction.count: state_of(auction) for auction in auctions_in(sealing.file.read_bytes())}
+    for entry in seals:
+        seal = read_seal(entry["seal"])
+        assert seal.state == sum_of(entry["salt"], states[seal.count])
 
 
 def test_each_entry_has_a_salt_of_its_own_behind_the_first(sealing: Front) -> None:

@@ -132,6 +132,12 @@ def test_the_packages_have_the_program_byte_for_byte_and_its_sum(packages: list[
     assert sources <= manifest.keys()
 
 
+def test_the_tools_bring_what_a_bundle_needs(packages: list[Path]) -> None:
+    listed = subprocess.run(["dpkg-deb", "--contents", packages[1]], capture_output=True, text=True, check=True, timeout=SECONDS).stdout
+    for name in ("seals/vectors.json", "seals/verify.mjs", "seals/state.mjs", "report/bundle.md"):
+        assert f"/usr/lib/python3/dist-packages/hpb/{name}\n" in listed, name
+
+
 def test_units_are_hardly_exposed(packages: list[Path]) -> None:
     unit = TOP / "packaging" / "systemd" / "hpb-front@.service"
     words = ["systemd-analyze", "security", "--offline=yes", f"--threshold={MOST_EXPOSED}", "--no-pager", str(unit)]

@@ -2,7 +2,6 @@
 
 from __future__ import annotations
 
-import argparse
 import base64
 import functools
 import gzip
@@ -16,17 +15,12 @@ from pathlib import Path
 from typing import Any
 
 import pytest
+from checkers import SECONDS, VERIFY, by_both, lay_out
 from harness.fronts import tool_words, with_package
 
-import hpb
-from hpb.seals.verifying import add_words, in_bundle, lines_of, verify
+from hpb.report.archive import vectors
 
-SEALS = Path(hpb.__file__).parent / "seals"
-VECTORS: dict[str, Any] = json.loads((SEALS / "vectors.json").read_text())
-CHECKERS = ("python", "node")
-# Findings of the first checker alone: the second one doesn't replay the rules.
-RULES = {"command"}
-SECONDS = 120
+VECTORS: dict[str, Any] = json.loads(vectors())
 
 
 @functools.cache
@@ -40,66 +34,59 @@ def room() -> Iterator[Path]:
         yield Path(folder)
 
 
-def lay_out(case: dict[str, Any], folder: Path) -> None:
+def bundle_of(case: dict[str, Any], folder: Path) -> Path:
     """The bundle of a case."""
-    lines = [VECTORS["lines"][line - 1] if isinstance(line, int) else line for line in case["record"]]
-    (folder / "auction.record").write_text("".join(f"{line}\n" for line in lines) + case.get("tail", ""))
+    segments = case.get("segments") or [case["record"]]
+    lines = [[VECTORS["lines"][line - 1] if isinstance(line, int) else line for line in part] for part in segments]
+    files: dict[str, str | bytes] = {
+        "definition.json": case.get("definition", VECTORS["definition"]), "authority.pem": VECTORS["authority"],
+        "key.txt": "".join(f"{key}\n" for key in case.get("keys", VECTORS["keys"])),
+        **{f"receipts/{number}": f"{receipt}\n" for number, receipt in enumerate(case.get("receipts", []))},
+    }
     if (file := case.get("file", VECTORS["file"])) is not None:
-        (folder / "auction.hpb").write_bytes(unpacked(file))
-    (folder / "definition.json").write_text(case.get("definition", VECTORS["definition"]))
-    (folder / "key.txt").write_text(VECTORS["key"] + "\n")
-    (folder / "authority.pem").write_text(VECTORS["authority"])
+        files["auction.hpb"] = unpacked(file)
     if "seals" in case:
-        (folder / "seals.txt").write_text("".join(f"{line}\n" for line in case["seals"]))
-    for number, receipt in enumerate(case.get("receipts", [])):
-        (folder / "receipts").mkdir(exist_ok=True)
-        (folder / "receipts" / f"receipt-{number}").write_text(receipt + "\n")
+        files["seals.txt"] = "".join(f"{line}\n" for line in case["seals"])
+    lay_out(folder, lines, files)
+    if "tail" in case:
+        with open(folder / "auction.record", "a") as record:
+            record.write(case["tail"])
+    return folder
 
 
-def findings(checker: str, folder: Path) -> list[str]:
-    """The findings of a checker. The first one is called here, which is quicker than a process for each case."""
-    if checker == "python":
-        words = argparse.ArgumentParser()
-        add_words(words)
-        lines = list(lines_of(verify(in_bundle(words.parse_args([str(folder)])))))
-        return [line.removeprefix("FOUND ") for line in lines if line.startswith("FOUND ")]
-    return ran_findings([shutil.which("node") or "node", str(SEALS / "verify.mjs")], folder)
+@pytest.mark.timeout(600)
+@pytest.mark.parametrize("place", range(4))
+def test_each_case_is_found_and_named_by_both_checkers(place: int, room: Path) -> None:
+    cases = VECTORS["cases"][place::4]
+    folders = [bundle_of(case, room / str(number)) for number, case in enumerate(cases)]
+    for case, found in zip(cases, by_both(folders), strict=True):
+        assert found == sorted(case["found"]), (case["name"], found)
 
 
-def ran_findings(words: list[str], folder: Path) -> list[str]:
-    """The findings of a program, whose status has to be 1 if there are any."""
-    ran = subprocess.run([*words, str(folder)], capture_output=True, text=True, timeout=SECONDS, env=with_package(dict(os.environ)))
-    assert not ran.stderr, ran.stderr
-    found = [line.removeprefix("FOUND ") for line in ran.stdout.splitlines() if line.startswith("FOUND ")]
-    assert ran.returncode == (1 if found else 0), ran
-    return found
-
-
-@pytest.mark.parametrize("checker", CHECKERS)
-@pytest.mark.parametrize("place", range(8))
-def test_each_case_is_found_and_named(checker: str, place: int, room: Path) -> None:
-    for number, case in list(enumerate(VECTORS["cases"]))[place::8]:
-        folder = room / str(number)
-        folder.mkdir()
-        lay_out(case, folder)
-        found = [one for one in findings(checker, folder) if one.split()[0] not in RULES]
-        assert sorted(found) == sorted(case["found"]), (case["name"], found)
-
-
-def test_the_tool_says_the_same_as_its_functions(room: Path) -> None:
-    for number, case in enumerate(VECTORS["cases"][:3]):
-        folder = room / str(number)
-        folder.mkdir()
-        lay_out(case, folder)
-        assert ran_findings(tool_words("verify"), folder) == case["found"]
+@pytest.mark.timeout(600)
+@pytest.mark.parametrize("words", [tool_words("verify"), [shutil.which("node") or "node", str(VERIFY)]], ids=["python", "node"])
+def test_the_programs_end_with_a_status_for_what_they_find(words: list[str], room: Path) -> None:
+    right, changed = (bundle_of(case, room / case["name"]) for case in VECTORS["cases"][:2])
+    unread = bundle_of(VECTORS["cases"][0], room / "unread")
+    (unread / "seals.txt").write_text("SEAL 1\n")
+    for folder, status, said in ((right, 0, "All of this is right.\n"), (changed, 1, "FOUND changed 1\n"), (unread, 2, "seals.txt: ")):
+        ran = subprocess.run([*words, str(folder)], capture_output=True, text=True, timeout=SECONDS, env=with_package(dict(os.environ)))
+        assert ran.returncode == status and said in (ran.stderr if status == 2 else ran.stdout), ran
 
 
 def test_the_cases_take_each_entry_in_each_way() -> None:
     names = [case["name"] for case in VECTORS["cases"]]
-    count = len(VECTORS["lines"])
-    assert len(set(names)) == len(names)
-    for number in range(1, count + 1):
-        for way in ("is changed", "is left out", "is doubled", "is changed, with new hashes from there on", *(["is moved"] if number < count else [])):
+    record = VECTORS["cases"][0]["record"]
+    assert len(set(names)) == len(names) and record == list(range(1, len(record) + 1))
+    for number in record:
+        for way in ("is changed", "is left out", "is doubled", "is changed, with new hashes from there on", *(["is moved"] if number < len(record) else [])):
             assert f"entry {number} {way}" in names
     kinds = {json.loads(line[65:])["kind"] for line in VECTORS["lines"]}
-    assert kinds == {"begin", "started", "accepted", "seal", "stamp", "stopped"}
+    assert kinds == {"begin", "started", "accepted", "seal", "stamp", "stopped", "sealed"}
+
+
+def test_the_cases_have_each_word_that_both_checkers_find() -> None:
+    """A report is checked by the first one alone."""
+    from hpb.seals.findings import WORDS
+
+    assert {found.split()[0] for case in VECTORS["cases"] for found in case["found"]} == set(WORDS) - {"command", "report", "record"}

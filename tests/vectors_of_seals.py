@@ -1,7 +1,7 @@
-"""Makes the vectors of sealed records, `python/src/hpb/seals/vectors.json`: a record with its seals, stamps, receipts and file, and cases in which
-one thing is wrong. The findings of each case are written down here by hand; no checker is asked.
+"""Makes the vectors of sealed records, `docs/vectors/seals.json`: two records with their seals, stamps, receipts and file, and cases in which one
+thing is wrong. The findings of each case are written down here by hand; no checker is asked.
 
-    PYTHONPATH=python/src:tests python3 tests/vectors_of_seals.py PROGRAM > python/src/hpb/seals/vectors.json
+    PYTHONPATH=python/src:tests /usr/bin/python3 tests/vectors_of_seals.py PROGRAM > docs/vectors/seals.json
 
 Keys and times are new each time, so the file is made once, and again only if the format changes.
 """
@@ -9,274 +9,325 @@ Keys and times are new each time, so the file is made once, and again only if th
 from __future__ import annotations
 
 import base64
+import dataclasses
 import gzip
+import hashlib
 import json
 import subprocess
 import sys
 import tempfile
-from collections.abc import Callable, Sequence
+from collections.abc import Callable, Iterator, Sequence
 from pathlib import Path
 from typing import Any
 
+from sealed_days import DAY, DEFINITION, Writer, at, entry_of, rewritten
 from stamps import Authority
 
-from hpb.lines import Accepted
-from hpb.record import Entry, New, Place, RecordFile
-from hpb.record.entries import entry_line
-from hpb.rules import Auction, answer, begin, read_definition
-from hpb.rules.writing import definition_line, fields_of
-from hpb.seals.book import Book
-from hpb.seals.checking import answers_of
-from hpb.seals.openssl import query_for, time_in, token_in
+from hpb.record import Entry
+from hpb.rules import read_definition
+from hpb.rules.writing import definition_line
 from hpb.seals.signing import Signer, make_key
 
-DEFINITION = {
-    "step": 10, "percent": 10, "stages": [80],
-    "nodes": [
-        {"name": "all", "parent": None}, {"name": "a", "parent": "all", "units": 10, "opening": 100},
-        {"name": "b", "parent": "all", "units": 10, "opening": 100},
-    ],
-    "bidders": [{"name": "x", "units": 20}, {"name": "y", "units": 20}],
-}
-NAMES = {"desk": "auctioneer", "ann": ["x"], "bob": ["y"]}
-SENDERS = {"x": "ann", "y": "bob"}
-# A day of two rounds, and days that differ in one command.
-DAY = ["BID x 1 a 100", "BID y 1 all 220", "CLOSE 1", "BID x 2 b 200", "CLOSE 2"]
+# Days that differ from DAY in some commands.
 OTHER_DAY = ["BID x 1 a 100", "BID y 1 all 230", "CLOSE 1", "BID x 2 b 210", "CLOSE 2"]
 SHORT_DAY = ["BID x 1 a 100", "CLOSE 1", "BID x 2 a 200", "CLOSE 2"]
-AT = "2026-12-01T12:{:02}:{:02}.000000Z"
+OTHER_DEFINITION = {**DEFINITION, "step": 20}
+# So small that the first segment has five entries.
+SEGMENT = 1_500
 Line = str | int
 Case = dict[str, Any]
 
 
-class Writer:
-    """Writes a record as a front does, each entry with the next second as its time."""
-
-    def __init__(self, path: Path, signer: Signer, authority: Authority | None) -> None:
-        self.record, self.authority, self.seconds = RecordFile(str(path)), authority, 0
-        self.definition = read_definition(json.dumps(DEFINITION).encode())
-        self.auction: Auction = begin(self.definition)
-        self.record.open()
-        self.record.begin(fields_of(self.definition))
-        self.book = Book(str(path), signer)
-        self.book.read()
-        self.record.book = self.book
-
-    def add(self, kind: str, **fields: object) -> None:
-        self.seconds += 1
-        self.record.write([New(kind, dict(fields), AT.format(*divmod(self.seconds, 60)))])
-        self.book.synced()
-
-    def day(self, lines: Sequence[str]) -> None:
-        self.add("started", names=NAMES, count=0)
-        for line in lines:
-            self.auction, told = answer(self.auction, line)
-            assert isinstance(told, Accepted), told
-            sender = SENDERS.get(line.split(" ")[1], "desk")
-            self.add("accepted", name=sender, line=line, answer=f"OK {self.auction.count}")
-            if line.startswith("CLOSE "):
-                self.add("seal", round=self.auction.round - (not self.auction.is_over), count=self.auction.count, answers=answers_of(self.auction))
-                self.stamp()
-        self.add("stopped", count=self.auction.count)
-        self.add("seal", round=0, count=self.auction.count, answers=[])
-        self.record.close()
-
-    def stamp(self) -> None:
-        if self.authority:
-            signed = self.book.seals[-1].signed
-            token = token_in(self.authority.reply(query_for(signed.stamped)))
-            self.add("stamp", seal=signed.seal.number, time=time_in(token), token=base64.b64encode(token).decode())
-
-
-def record_of(folder: Path, name: str, signer: Signer, lines: Sequence[str], authority: Authority | None = None) -> tuple[str, Book]:
-    writer = Writer(folder / name, signer, authority)
-    writer.day(lines)
-    return (folder / name).read_text(), writer.book
-
-
-def file_of(folder: Path, program: str, lines: Sequence[str], definition: object = None) -> str:
-    """The file of an auction with these commands, in gzip and base64."""
-    file = folder / "file"
-    file.unlink(missing_ok=True)
-    text = definition_line(read_definition(json.dumps(definition or DEFINITION).encode()))
-    for words, given in ((["format", "--file", str(file), "--journal", "4"], text), (["run", "--file", str(file)], "".join(f"{line}\n" for line in lines))):
-        subprocess.run([program, *words], input=given, text=True, check=True, capture_output=True, timeout=60)
-    return packed(file.read_bytes())
+def text_of(definition: object) -> str:
+    return definition_line(read_definition(json.dumps(definition).encode()))
 
 
 def packed(data: bytes) -> str:
     return base64.b64encode(gzip.compress(data, mtime=0)).decode()
 
 
-# Cases. A record is a list of lines: a number is that of a line of the right record, and a text a line of its own.
+def numbered(known: Sequence[str], lines: Sequence[str]) -> list[Line]:
+    """Lines as a case has them: those of the right records are given by their numbers."""
+    return [known.index(line) + 1 if line in known else line for line in lines]
 
 
-def entry_of(line: str) -> Entry:
-    return dict(json.loads(line[65:]))
+class Maker:
+    """Makes all records and files in a folder, with two keys and an authority."""
+
+    def __init__(self, program: str, folder: Path) -> None:
+        self.program, self.folder, self.count = program, folder, 0
+        (folder / "authority").mkdir()
+        self.signer, self.other = make_key(str(folder / "key")), make_key(str(folder / "other-key"))
+        self.authority = Authority(folder / "authority", days=36_500)
+        self.day = self.writer().day()
+        self.lines = self.day.lines
+        # The lines of right records.
+        self.known = list(self.lines)
+        self.entries = [entry_of(line) for line in self.lines]
+        self.first, self.second, self.end = (at(self.entries, "seal", place) for place in range(3))
+
+    def writer(self, signer: Signer | None = None, has_stamps: bool = True, most_segment: int = 4_000_000) -> Writer:
+        self.count += 1
+        return Writer(self.folder / f"record-{self.count}", signer or self.signer, self.authority if has_stamps else None, most_segment)
+
+    def file(self, lines: Sequence[str], definition: object = DEFINITION) -> str:
+        """The file of an auction with these commands, in gzip and base64."""
+        file = self.folder / "file"
+        file.unlink(missing_ok=True)
+        given = "".join(f"{line}\n" for line in lines)
+        for words, text in ((["format", "--file", str(file), "--journal", "16"], text_of(definition)), (["run", "--file", str(file)], given)):
+            ran = subprocess.run([self.program, *words], input=text, text=True, check=True, capture_output=True, timeout=60)
+            assert "ERR" not in ran.stdout, ran
+        return packed(file.read_bytes())
+
+    def case(self, name: str, lines: Sequence[str], found: Sequence[str], **more: object) -> Case:
+        return {"name": name, "record": numbered(self.lines, lines), "found": list(found), **more}
 
 
-def rewritten(lines: Sequence[str], entries: Sequence[Entry]) -> list[Line]:
-    """These entries, numbered and hashed anew. Lines that stay as they were are given by their numbers."""
-    place, made = Place(), list[Line]()
-    for entry in entries:
-        fields = {name: value for name, value in entry.items() if name not in ("entry", "before", "at", "kind", "synced")}
-        line, place = entry_line(place, entry["kind"], fields, entry["at"], entry.get("synced"))
-        text = line.decode().rstrip("\n")
-        made.append(lines.index(text) + 1 if text in lines else text)
-    return made
+# Without the key.
 
 
-def broken(lines: Sequence[str]) -> list[Case]:
-    """Each entry changed, left out, doubled and moved, without new hashes."""
-    count, cases = len(lines), list[Case]()
-    whole = list(range(1, count + 1))
-    for number in whole:
-        before, behind = whole[: number - 1], whole[number:]
-        changed = lines[number - 1].replace('"at":"2026', '"at":"2027')
-        cases += [
-            {"name": f"entry {number} is changed", "record": [*before, changed, *behind], "found": [f"changed {number}"]},
-            {"name": f"entry {number} is left out", "record": [*before, *behind], "found": [f"order {number}" if behind else f"cut {number}"]},
-            {"name": f"entry {number} is doubled", "record": [*before, number, number, *behind], "found": [f"order {number + 1}"]},
-        ]
+def broken(made: Maker) -> Iterator[Case]:
+    """Each entry changed, left out, doubled, moved, and the record cut within it, without new hashes."""
+    lines, count = made.lines, len(made.lines)
+    for number in range(1, count + 1):
+        before, own, behind = lines[: number - 1], lines[number - 1], lines[number:]
+        changed = own.replace('"at":"2026', '"at":"2027')
+        yield made.case(f"entry {number} is changed", [*before, changed, *behind], [f"changed {number}"])
+        yield made.case(f"entry {number} is left out", [*before, *behind], [f"order {number}" if behind else f"cut {number}"])
+        yield made.case(f"entry {number} is doubled", [*before, own, own, *behind], [f"order {number + 1}"])
         if behind:
-            cases.append({"name": f"entry {number} is moved", "record": [*before, behind[0], number, *behind[1:]], "found": [f"order {number}"]})
-        cases.append({
-            "name": f"the record is cut within entry {number}", "record": before, "tail": lines[number - 1][:100], "found": [f"cut {number}"],
-        })
-    return cases
+            yield made.case(f"entry {number} is moved", [*before, behind[0], own, *behind[1:]], [f"order {number}"])
+        yield made.case(f"the record is cut within entry {number}", before, [f"cut {number}"], tail=own[:100])
 
 
-def seals_behind(entries: Sequence[Entry], number: int) -> list[str]:
+def seals_behind(made: Maker, number: int) -> list[str]:
     """The findings if entry `number` is another one than the seals from there on were made of."""
-    word = "other" if number == 1 else "seal"
-    return [f"{word} {entry['entry']}" for entry in entries if entry["kind"] == "seal" and entry["entry"] >= number]
+    return [f"{'other' if number == 1 else 'seal'} {seal}" for seal in (made.first, made.second, made.end) if seal >= number]
 
 
-def rehashed(lines: Sequence[str]) -> list[Case]:
+def rehashed(made: Maker) -> Iterator[Case]:
     """Each entry changed, with new hashes from there on."""
-    cases = []
-    for number in range(1, len(lines) + 1):
-        entries = [entry_of(line) for line in lines]
+    for number in range(1, len(made.lines) + 1):
+        entries = [dict(entry) for entry in made.entries]
         entries[number - 1]["at"] = entries[number - 1]["at"].replace(".000000Z", ".000001Z") if number > 1 else "2026-12-01T11:00:00.000000Z"
-        cases.append({
-            "name": f"entry {number} is changed, with new hashes from there on", "record": rewritten(lines, entries),
-            "found": seals_behind([entry_of(line) for line in lines], number),
-        })
-    return cases
+        yield made.case(f"entry {number} is changed, with new hashes from there on", rewritten(entries), seals_behind(made, number))
 
 
-def edited(lines: Sequence[str], name: str, edit: Callable[[list[Entry]], object], found: list[str], **more: object) -> Case:
+def edited(made: Maker, name: str, edit: Callable[[list[Entry]], object], found: list[str], **more: object) -> Case:
     """A case whose record is written anew behind an edit."""
-    entries = [entry_of(line) for line in lines]
+    entries = [dict(entry) for entry in made.entries]
     edit(entries)
-    return {"name": name, "record": rewritten(lines, entries), "found": found, **more}
+    return made.case(f"{name}, with new hashes from there on", rewritten(entries), found, **more)
 
 
-def at(entries: Sequence[Entry], kind: str, place: int = 0) -> int:
-    """The number of an entry of this kind, counted from 0."""
-    return [int(entry["entry"]) for entry in entries if entry["kind"] == kind][place]
+def put(number: int, **fields: object) -> Callable[[list[Entry]], object]:
+    return lambda entries: entries[number - 1].update(fields)
 
 
-def forged(lines: Sequence[str], other: str) -> list[Case]:
+def without(*numbers: int) -> Callable[[list[Entry]], object]:
+    return lambda entries: [entries.pop(number - 1) for number in sorted(numbers, reverse=True)]
+
+
+def forged(made: Maker) -> Iterator[Case]:
     """Forgeries with right hashes."""
-    entries = [entry_of(line) for line in lines]
-    first, second, end = (at(entries, "seal", place) for place in range(3))
-    stamps = at(entries, "stamp"), at(entries, "stamp", 1)
-    bid = at(entries, "accepted")
-    all_seals = [f"seal {number}" for number in (first, second, end)]
-    its = next(entry for entry in map(entry_of, other.splitlines()) if entry["kind"] == "seal")
+    first, second, end = made.first, made.second, made.end
+    stamps, bid = [at(made.entries, "stamp", place) for place in range(2)], at(made.entries, "accepted")
+    behind = [f"seal {second}", f"seal {end}"]
+    seal, signature, answers = (made.entries[first - 1][name] for name in ("seal", "signature", "answers"))
+    changed = [answers[0].replace("REVENUE 220", "REVENUE 240"), *answers[1:]]
+    other_seal = seal.replace(made.signer.public, made.other.public)
+    stamp, other_stamp = (made.entries[number - 1] for number in stamps)
 
-    def put(number: int, **fields: object) -> Callable[[list[Entry]], object]:
-        return lambda made: made[number - 1].update(fields)
+    def swap(entries: list[Entry]) -> None:
+        for number, other in ((stamps[0], other_stamp), (stamps[1], stamp)):
+            entries[number - 1].update(token=other["token"], time=other["time"])
 
-    def swap_tokens(made: list[Entry]) -> None:
-        one, two = (made[number - 1] for number in stamps)
-        one["token"], two["token"], one["time"], two["time"] = two["token"], one["token"], two["time"], one["time"]
-
-    def without(*numbers: int) -> Callable[[list[Entry]], object]:
-        return lambda made: [made.pop(number - 1) for number in sorted(numbers, reverse=True)]
-
-    signature = entries[first - 1]["signature"]
-    wrong = ("1" if signature[0] == "0" else "0") + signature[1:]
-    answers = [entries[first - 1]["answers"][0].replace("REVENUE 220", "REVENUE 240"), *entries[first - 1]["answers"][1:]]
-    return [
-        edited(lines, "a bid is another one, with new hashes from there on", put(bid, line="BID x 1 a 110"), [*all_seals, "file 0"]),
-        edited(lines, "a bid has another sender, with new hashes from there on", put(bid, name="bob"), all_seals),
-        edited(lines, "a bid is left out, with new numbers and hashes from there on", without(bid), [f"seal {number - 1}" for number in (first, second, end)], file=None),
-        edited(lines, "the first seal is one of another auction", put(first, seal=its["seal"], signature=its["signature"]),
-               [f"other {first}", *all_seals[1:]]),
-        edited(lines, "a signature is wrong", put(first, signature=wrong), [f"signature {first}", *all_seals[1:]]),
-        edited(lines, "the answers of a seal are others", put(first, answers=answers), [f"answers {first}", *all_seals[1:]]),
-        edited(lines, "the first seal is left out with its stamp", without(first, stamps[0]),
-               [f"seal {second - 2}", f"seal {end - 2}", f"stamp {stamps[1] - 2}"]),
-        edited(lines, "two stamps are exchanged", swap_tokens, [*all_seals[1:], f"stamp {stamps[0]}"]),
-        edited(lines, "the first stamp is left out", without(stamps[0]),
-               [f"seal {second - 1}", f"seal {end - 1}", f"stamp {stamps[1] - 1}"]),
-        edited(lines, "a stamp has another time than its token", put(stamps[0], time="2026-01-01T00:00:00Z"), [*all_seals[1:], f"stamp {stamps[0]}"]),
-    ]
+    yield edited(made, "a bid is another one", put(bid, line="BID x 1 a 110"), [f"seal {first}", *behind, "file 0"])
+    yield edited(made, "a bid has another sender", put(bid, name="bob"), [f"seal {first}", *behind])
+    yield edited(made, "a bid is left out", without(bid), [f"seal {number - 1}" for number in (first, second, end)], file=None)
+    yield edited(made, "a signature is wrong", put(first, signature=("1" if signature[0] == "0" else "0") + signature[1:]), [f"signature {first}", *behind])
+    yield edited(made, "a seal is signed by another key", put(first, signature=made.other.sign(seal)), [f"signature {first}", *behind])
+    yield edited(made, "a seal names another key, and is signed by it", put(first, seal=other_seal, signature=made.other.sign(other_seal)), [f"key {first}", *behind])
+    yield edited(made, "a signature is too short", put(first, signature=signature[:-2]), [f"seal {first}", *behind])
+    yield edited(made, "the answers of a seal are others", put(first, answers=changed), [f"answers {first}", *behind])
+    yield edited(made, "a seal has no answers", put(first, answers=None), [f"answers {first}", *behind])
+    yield edited(made, "a seal has another salt", put(first, salt="00" * 16), [f"answers {first}", f"state {first}", *behind])
+    yield edited(made, "the first seal is left out with its stamp", without(first, stamps[0]),
+                 [f"seal {second - 2}", f"seal {end - 2}", f"stamp {stamps[1] - 2}"])
+    yield edited(made, "two stamps are exchanged", swap, [*behind, f"stamp {stamps[0]}"])
+    yield edited(made, "the first stamp is left out", without(stamps[0]), [f"seal {second - 1}", f"seal {end - 1}", f"stamp {stamps[1] - 1}"])
+    yield edited(made, "a stamp has another time than its token", put(stamps[0], time="2026-01-01T00:00:00Z"), [*behind, f"stamp {stamps[0]}"])
+    yield edited(made, "a stamp is cut", put(stamps[0], token=stamp["token"][:400]), [*behind, f"stamp {stamps[0]}"])
+    yield edited(made, "a stamp is no stamp", put(stamps[0], token="AAAA", time=""), [*behind, f"stamp {stamps[0]}"])
+    content = made.lines[bid - 1][65:].replace("ann", "\u00e4nn")
+    yield made.case("a byte isn't of ASCII", [*made.lines[: bid - 1], f"{hashlib.sha256(content.encode('latin-1')).hexdigest()} {content}", *made.lines[bid:]],
+                    [f"changed {bid}"])
 
 
-def cut(lines: Sequence[str]) -> list[Case]:
+def cut(made: Maker) -> Iterator[Case]:
     """The record ends behind a whole entry. Only its own end, its closes and the file show it."""
-    entries = [entry_of(line) for line in lines]
-    first, second, end = (at(entries, "seal", place) for place in range(3))
-    close = at(entries, "accepted", 4)
-    numbers: dict[int, list[str]] = {end - 1: [], second + 1: [], second: [], second - 1: [f"unsealed {close}"]}
-    cases: list[Case] = [
-        {"name": f"the record is cut behind entry {number}", "record": list(range(1, number + 1)), "found": [f"cut {number + 1}", *found]}
-        for number, found in numbers.items()
-    ]
-    for number in (close - 1, first + 1, 3):
-        cases.append({
-            "name": f"the record is cut behind entry {number}, before commands of the file", "record": list(range(1, number + 1)),
-            "found": [f"cut {number + 1}", *(["unsealed 0"] if number < first else []), "file 0"],
-        })
-    return cases
+    close = at(made.entries, "accepted", 4)
+    numbers: dict[int, list[str]] = {made.end - 1: [], made.second + 1: [], made.second: [], made.second - 1: [f"unsealed {close}"]}
+    for number, found in numbers.items():
+        yield made.case(f"the record is cut behind entry {number}", made.lines[:number], [f"cut {number + 1}", *found])
+    for number in (close - 1, made.first + 1, 3):
+        unsealed = ["unsealed 0"] if number < made.first else []
+        yield made.case(f"the record is cut behind entry {number}, before commands of the file", made.lines[:number], [f"cut {number + 1}", *unsealed, "file 0"])
+    kept = made.day.book.seals[2].signed.line
+    yield made.case("the record is cut before a seal that somebody kept", made.lines[: made.end - 2], [f"cut {made.end - 1}", "kept 0"], seals=[kept])
+    yield made.case("no front ever ended the record, and nobody has the file", made.lines[: made.end - 2], [], file=None)
+
+
+# Other auctions, files and definitions.
+
+
+def others(made: Maker) -> Iterator[Case]:
+    first, second = made.first, made.second
+    other, foreign = made.writer(has_stamps=False).day(OTHER_DAY), made.writer(made.other, has_stamps=False).day()
+    its = next(entry for entry in map(entry_of, other.lines) if entry["kind"] == "seal")
+    states = [f"state {first}", f"state {second}"]
+    yield edited(made, "the first seal is one of another auction", put(first, seal=its["seal"], signature=its["signature"]),
+                 [f"other {first}", f"seal {second}", f"seal {made.end}"])
+    yield made.case("the file is that of another auction with the same definition", made.lines, [*states, "file 0"], file=made.file(OTHER_DAY))
+    yield made.case("the file is an older one", made.lines, ["file 0"], file=made.file(DAY[:-1]))
+    yield made.case("the file has another definition", made.lines, ["file 0"], file=made.file([], OTHER_DEFINITION))
+    yield made.case("the file is none of an auction", made.lines, ["file 0"], file=packed(bytes(69_632)))
+    yield made.case("the file went on behind the record", made.lines, ["file 0"], file=made.file([*DAY, "BID y 2 all 350"]))
+    yield made.case("another definition was announced", made.lines, ["definition 1"], definition=text_of(OTHER_DEFINITION))
+    yield made.case("all seals are signed by another key", foreign.lines, [f"key {entry['entry']}" for entry in map(entry_of, foreign.lines) if entry["kind"] == "seal"])
+    yield made.case("a seal that somebody kept is one of another record of the same key", made.lines, ["kept 0"], seals=[other.book.seals[0].signed.line])
+
+
+# With the key.
+
+
+def owners(made: Maker) -> Iterator[Case]:
+    """The key's owner leaves a bid out, and seals and stamps all anew. Only a receipt shows it."""
+    short, file = made.writer().day(SHORT_DAY), made.file(SHORT_DAY)
+    receipts = [found.receipt for number in range(1, 6) if (found := made.day.book.receipt(number))]
+    its = short.book.receipt(3)
+    assert its
+    own, bid = [json.loads(json.loads(one)["entry"])["entry"] for one in (receipts[0], receipts[1])]
+    path = json.loads(receipts[0])
+    cut_path = json.dumps({**path, "path": path["path"][:-1]}, separators=(",", ":"))
+    yield made.case("the key's owner left a bid out, and sealed and stamped all anew: alone it can't be seen", short.lines, [], file=file)
+    yield made.case("the same, and the bid has a receipt", short.lines, [f"receipt {bid}"] * 2, file=file, receipts=[receipts[1]])
+    yield made.case("a receipt is one of another record", made.lines, [f"receipt {json.loads(json.loads(its.receipt)['entry'])['entry']}"] * 2, receipts=[its.receipt])
+    yield made.case("a receipt's path lacks its end", made.lines, [f"receipt {own}"], receipts=[cut_path])
+    changed = json.dumps({**path, "entry": path["entry"].replace("a 100", "a 900")}, separators=(",", ":"))
+    yield made.case("a receipt has another bid", made.lines, [f"receipt {own}"], receipts=[changed])
+
+
+def lies(made: Maker) -> Iterator[Case]:
+    """The key's owner signs what isn't so."""
+
+    def lying(name: str, found: Callable[[int], list[str]], **fields: object) -> Case:
+        writer = made.writer(has_stamps=False)
+        writer.take_key(made.signer, lambda seal: dataclasses.replace(seal, **fields) if seal.number == 1 else seal)  # type: ignore[arg-type]
+        return made.case(name, writer.day().lines, found(made.first))
+
+    yield lying("a seal lies about the state", lambda first: [f"state {first}"], state="0" * 64)
+    yield lying("a seal lies about the results", lambda first: [f"answers {first}"], results="0" * 64)
+    # Then the second seal, whose number is 2, is the first right one.
+    yield lying("a seal lies about COUNT", lambda first: [f"seal {first}", f"seal {first + 3}", f"seal {first + 5}"], count=2)
+    yield lying("a seal lies about its round", lambda first: [f"answers {first}"], round=2)
+    yield lying("a seal lies about its time", lambda first: [f"seal {first}", f"seal {first + 3}", f"seal {first + 5}"], at="2026-12-01T11:00:00.000000Z")
+    yield lying("a seal lies about the definition", lambda first: [f"seal {first}", f"seal {first + 3}", f"seal {first + 5}"], definition="0" * 64)
+    writer = made.writer(has_stamps=False)
+    writer.change_answers = lambda answers: [line.replace("REVENUE 220", "REVENUE 240") for line in answers]
+    yield made.case("the answers under a seal lie", writer.day().lines, [f"answers {made.first}"])
+
+
+def keys(made: Maker) -> Iterator[Case]:
+    """Another key from the second round on, and the first one again at the end."""
+    writer = made.writer(has_stamps=False)
+    writer.start()
+    for line in DAY[:3]:
+        writer.tell(line)
+    writer.stop()
+    writer.take_key(made.other)
+    writer.start()
+    for line in DAY[3:]:
+        writer.tell(line)
+    writer.stop()
+    lines, keys = writer.lines, [made.signer.public, made.other.public]
+    seals = [entry["entry"] for entry in map(entry_of, lines) if entry["kind"] == "seal"]
+    yield made.case("the key was changed, and both were announced", lines, [], keys=keys)
+    yield made.case("the key was changed, and the second wasn't announced", lines, [f"key {number}" for number in seals[2:]])
+    yield made.case("the key was changed, and both were announced the other way round", lines, [f"key {number}" for number in seals[2:]], keys=keys[::-1])
+    writer.take_key(made.signer)
+    writer.start()
+    writer.stop()
+    last = len(writer.lines)
+    yield made.case("the first key signs again behind the second", writer.lines, [f"key {last}"], keys=keys)
+    writer.record.close()
+
+
+# Segments.
+
+
+def parts_of(writer: Writer) -> list[list[str]]:
+    """The lines of each segment of a record that is closed."""
+    paths = [writer.path, *(Path(f"{writer.path}.{number}") for number in range(2, 1 + writer.record.segment))]
+    return [path.read_text().splitlines() for path in paths]
+
+
+def segments(made: Maker) -> Iterator[Case]:
+    """A record of several segments, of which each is a list of lines."""
+    parts = parts_of(made.writer(most_segment=SEGMENT).day())
+    other = parts_of(made.writer(most_segment=SEGMENT).day())
+    made.known += [line for part in parts for line in part]
+    entries, begin = [entry_of(line) for part in parts for line in part], len(parts[0]) + 1
+    seals = [entry["entry"] for entry in entries if entry["kind"] == "seal"]
+    assert len(parts) >= 3 and len(other[0]) == len(parts[0]) and seals[0] > begin and "CLOSE" not in "".join(parts[0])
+
+    def case(name: str, own: Sequence[Sequence[str]], found: list[str]) -> Case:
+        return {"name": name, "segments": [numbered(made.known, part) for part in own], "found": found}
+
+    changed = [dict(entry) for entry in entries]
+    changed[begin - 2]["sha256"] = "0" * 64
+    lines = rewritten(changed)
+    ends = [sum(map(len, parts[:place])) for place in range(len(parts) + 1)]
+    yield case("all is right in several segments", parts, [])
+    yield case("the second segment is missing", [parts[0], [], *parts[2:]], ["segment 0"])
+    yield case("the first segment is missing", [[], *parts[1:]], ["segment 0"])
+    yield case("all segments but the first are missing", parts[:1], [f"cut {begin}", "unsealed 0", "file 0"])
+    yield case("two segments are exchanged", [parts[0], parts[2], parts[1], *parts[3:]], ["segment 0"])
+    yield case("the second segment is one of another record", [parts[0], other[1], *parts[2:]], [f"before {begin}"])
+    yield case("the first segment lacks its end", [parts[0][:-1], *parts[1:]], [f"order {begin - 1}"])
+    yield case("the first segment's end has another sum, with new hashes from there on", [lines[one:two] for one, two in zip(ends, ends[1:])],
+               ["segment 0", *(f"seal {number}" for number in seals)])
 
 
 def made(program: str, folder: Path) -> dict[str, Any]:
-    signer, other_signer = make_key(str(folder / "key")), make_key(str(folder / "other-key"))
-    (folder / "authority").mkdir()
-    authority = Authority(folder / "authority", days=36_500)
-    text, book = record_of(folder, "record", signer, DAY, authority)
-    other, other_book = record_of(folder, "other", signer, OTHER_DAY)
-    short, short_book = record_of(folder, "short", signer, SHORT_DAY, authority)
-    foreign, _ = record_of(folder, "foreign", other_signer, DAY)
-    lines, file = text.splitlines(), file_of(folder, program, DAY)
-    entries = [entry_of(line) for line in lines]
-    receipts = [found.receipt for number in range(1, 6) if (found := book.receipt(number))]
-    short_receipt = short_book.receipt(3)
-    assert short_receipt
-    bid = at(entries, "accepted", 1)
-    seals_of = {name: [at(list(map(entry_of, each.splitlines())), "seal", place) for place in range(3)] for name, each in (("foreign", foreign), ("other", other))}
-    whole: list[Line] = list(range(1, len(lines) + 1))
-    other_definition: dict[str, Any] = {**DEFINITION, "step": 20}
-    changed_receipt = json.dumps({**json.loads(receipts[0]), "path": json.loads(receipts[0])["path"][:-1]}, separators=(",", ":"))
-    cases = [
-        {"name": "all is right", "record": whole, "receipts": receipts, "seals": [one.signed.line for one in book.seals], "found": []},
-        *broken(lines), *rehashed(lines), *cut(lines), *forged(lines, other),
-        {"name": "the file is that of another auction with the same definition", "record": whole, "file": file_of(folder, program, OTHER_DAY), "found": ["file 0"]},
-        {"name": "the file is an older one", "record": whole, "file": file_of(folder, program, DAY[:-1]), "found": ["file 0"]},
-        {"name": "the file has another definition", "record": whole, "file": file_of(folder, program, [], other_definition), "found": ["file 0"]},
-        {"name": "another definition was announced", "record": whole, "definition": definition_line(read_definition(json.dumps(other_definition).encode())), "found": ["definition 1"]},
-        {"name": "all seals are signed by another key", "record": foreign.splitlines(), "found": [f"key {number}" for number in seals_of["foreign"]]},
-        {"name": "a seal that somebody kept is one of another record of the same key", "record": whole, "seals": [other_book.seals[0].signed.line], "found": ["kept 0"]},
-        {"name": "the key's owner left a bid out, and sealed and stamped all anew: alone it can't be seen", "record": short.splitlines(),
-         "file": file_of(folder, program, SHORT_DAY), "found": []},
-        {"name": "the same, and the bid has a receipt", "record": short.splitlines(), "file": file_of(folder, program, SHORT_DAY),
-         "receipts": [receipts[1]], "found": [f"receipt {bid}", f"receipt {bid}"]},
-        {"name": "a receipt is one of another record", "record": whole, "receipts": [short_receipt.receipt],
-         "found": [f"receipt {json.loads(json.loads(short_receipt.receipt)['entry'])['entry']}"] * 2},
-        {"name": "a receipt's path lacks its end", "record": whole, "receipts": [changed_receipt], "found": [f"receipt {json.loads(json.loads(receipts[0])['entry'])['entry']}"]},
-    ]
+    """All vectors."""
+    maker = Maker(program, folder)
+    receipts = [found.receipt for number in range(1, 6) if (found := maker.day.book.receipt(number))]
+    right = maker.case("all is right", maker.lines, [], receipts=receipts, seals=[one.signed.line for one in maker.day.book.seals])
+    ways = (broken, rehashed, forged, cut, others, owners, lies, keys, segments)
+    cases = [right, *(case for way in ways for case in way(maker))]
     return {
         "what": "Records of hpb with seals; docs/VERIFY.md describes the format. In a case a number stands for that line of `lines`.",
-        "key": signer.public, "authority": authority.certificates.read_text(), "definition": definition_line(read_definition(json.dumps(DEFINITION).encode())),
-        "file": file, "lines": lines, "cases": cases,
+        "keys": [maker.signer.public], "authority": maker.authority.certificates.read_text(), "definition": text_of(DEFINITION),
+        "file": maker.file(DAY), "lines": maker.known, "cases": cases,
     }
+
+
+def lines_of(vectors: dict[str, Any]) -> Iterator[str]:
+    """The vectors as JSON, with a line for each line and each case."""
+    yield "{"
+    for name, value in vectors.items():
+        end = "" if name == "cases" else ","
+        if isinstance(value, list):
+            yield f"{json.dumps(name)}: ["
+            yield from (f"{json.dumps(one)}{'' if place == len(value) else ','}" for place, one in enumerate(value, 1))
+            yield f"]{end}"
+        else:
+            yield f"{json.dumps(name)}: {json.dumps(value)}{end}"
+    yield "}"
 
 
 if __name__ == "__main__":
     with tempfile.TemporaryDirectory() as room:
-        json.dump(made(sys.argv[1], Path(room)), sys.stdout, indent=0)
-        print()
+        print("\n".join(lines_of(made(sys.argv[1], Path(room)))))

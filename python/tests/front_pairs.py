@@ -8,11 +8,13 @@ from __future__ import annotations
 import base64
 import json
 import random
+import re
 import socket
 from collections import defaultdict
 from collections.abc import Sequence
 from dataclasses import dataclass, field
 
+from front_sealed import SealedDisk, look_up
 from front_world import ROLES, Server, Watch, Wire, World, tokens_of
 from front_world import token as token_of_name
 from hpb.front.core import effects, events
@@ -53,6 +55,10 @@ class Round:
 
 
 LOOK = ("", "")
+# In seals and receipts: proofs, numbers of entries, hashes, signatures, keys and salts.
+OF_ENTRIES = re.compile(
+    rb'CONSISTENCY [0-9a-f,-]+|"path":\[[^\]]*\]|(?:ENTRIES|with|\\"entry\\":|\\"synced\\":) ?[0-9]+|[0-9a-f]{128}|[0-9a-f]{64}|[0-9a-f]{32}'
+)
 
 
 @dataclass
@@ -173,12 +179,15 @@ class Run:
     plan: Plan
     which: int
     information: Information
+    has_seals: bool = False
     given: dict[str, list[bytes]] = field(default_factory=lambda: {channel: [] for channel in CHANNELS})
 
     def __post_init__(self) -> None:
         self.ears = Ears()
         server = Server(auction=begin(read_definition(DEFINITION)))
         self.world = World(random.Random(1), self.ears, tree=TREE, information=self.information, server=server)
+        if self.has_seals:
+            self.world.disk = SealedDisk(tree=TREE)
         self.wires: dict[str, Wire] = {}
         self.tickets = 0
         self.begin()
@@ -215,6 +224,8 @@ class Run:
                 world.move_server()
             elif disk.writes or disk.puts:
                 world.move_disk()
+            elif world.lookups:
+                look_up(world)
             else:
                 return
 
@@ -245,6 +256,8 @@ class Run:
         """The viewer asks for all that it may."""
         own = ROLES[self.plan.viewer].bidders
         lines = ["SHOW", *(f"NODE {node}" for node in TREE.nodes), *(f"WHO {bidder}" for bidder in own), "WHO y", "INFORMATION", "PREVIEW"]
+        if self.has_seals:
+            lines += ["SEAL", "SEAL 1", *(f"RECEIPT {number}" for number in range(1, 10))]
         self.keep(LINES, *(self.send(self.plan.viewer, line) for line in lines))
         self.keep(NEWS, *(self.send(self.plan.viewer, line) for line in ("EVENT 0", "EVENT 1", "EVENT", "READ 1")))
         self.look_at_page()
@@ -260,8 +273,10 @@ class Run:
         self.seen = model, newest
 
     def keep(self, channel: str, *given: bytes) -> None:
-        self.given[channel] += given
-        self.given[SIZES] += [b"%d" % len(one) for one in given]
+        """Of seals and receipts all is kept but for hashes, which are salted, and how many entries the record has, which each name may know."""
+        known = [OF_ENTRIES.sub(b"", one) if self.has_seals else one for one in given]
+        self.given[channel] += known
+        self.given[SIZES] += [b"%d" % len(one) for one in known]
 
     # The auction.
 
@@ -313,10 +328,10 @@ def information_of(plan: Plan, *observers: str) -> Information:
     return Information(plan.rule, EVERYTHING, observers)
 
 
-def pair(seed: int, viewer: str, *observers: str) -> tuple[Run, Run]:
+def pair(seed: int, viewer: str, *observers: str, has_seals: bool = False) -> tuple[Run, Run]:
     """Both runs of a seed, up to the end of the auction."""
     plan = Writer(seed, viewer).plan()
-    runs = [Run(plan, which, information_of(plan, *observers)).carry_out() for which in range(2)]
+    runs = [Run(plan, which, information_of(plan, *observers), has_seals).carry_out() for which in range(2)]
     return runs[0], runs[1]
 
 

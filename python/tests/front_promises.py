@@ -49,6 +49,10 @@ class Promise(enum.Enum):
     LISTENS = "Without its line LISTENING or BOARD on standard output the front ends; without any other it goes on."
     AGREES = "When anybody is let in the record has what the file has."
     FROZEN = "While commands are frozen, record and file have the same ones, and none goes to the server."
+    SEALED = "Each close has one seal, of the state right behind it. No command is told to the server, or put into the record, before that is on the disk."
+    STAMPED = "Stamps come in the order of the seals, each once, behind its seal. All seals are stamped once there is a network."
+    RECEIPTS = "Each name gets receipts for its own commands alone, of which each leads to the last seal. Each seal comes with the proof that it goes on from the one before."
+    VERIFIES = "The checker finds the record right, whatever happened."
 
 
 class Broken(AssertionError):

@@ -48,8 +48,9 @@ def token(name: str, number: int) -> bytes:
 
 @dataclass
 class Disk:
-    """The record and the file beside it: parts that are synced, and parts that are written and may be lost."""
+    """The record and the file beside it: parts that are synced, and parts that are written and may be lost. `front_sealed` has one with seals."""
 
+    has_seals = False
     entries: list[Entry] = field(default_factory=list)
     writes: list[effects.Write] = field(default_factory=list)
     beside: dict[int, Left] = field(default_factory=dict)
@@ -59,6 +60,11 @@ class Disk:
         for write in self.writes[:count]:
             self.entries.append({"entry": len(self.entries) + 1, "kind": write.kind, **write.fields})
         del self.writes[:count]
+
+    def synced(self, count: int) -> events.Synced:
+        """Syncs so many entries, and returns the event that says so."""
+        self.sync(count)
+        return events.Synced(count, self.place)
 
     def sync_beside(self) -> Event | None:
         """Syncs everything written beside the record, and returns the event that says so."""
@@ -185,7 +191,8 @@ class World:
     timers: list[tuple[float, int]] = field(default_factory=list)
     tokens: dict[str, int] = field(default_factory=lambda: dict.fromkeys(ROLES, 1))
     numbers: Iterator[int] = field(default_factory=lambda: iter(range(1, 1_000_000)))
-    # The page's questions without an answer, and whether the page is being started.
+    # Seals and receipts that are looked up; the page's questions without an answer, and whether the page is being started.
+    lookups: list[effects.LookUp] = field(default_factory=list)
     asked: list[int] = field(default_factory=list)
     is_board_begun: bool = False
     # The seconds that have passed, even if the clock was set.
@@ -212,9 +219,11 @@ class World:
     # The front's process.
 
     def start(self) -> None:
-        rules = self.information
-        roles = with_rules(rules, ROLES) if rules else ROLES
-        setting = Setting(self.tree, roles, self.sessions, has_board=True, plan=self.plan, closing=self.closing, information=rules)
+        rules, has_seals = self.information, self.disk.has_seals
+        roles = {name: role._replace(has_seals=has_seals) for name, role in (with_rules(rules, ROLES) if rules else ROLES).items()}
+        setting = Setting(
+            self.tree, roles, self.sessions, has_board=True, plan=self.plan, closing=self.closing, information=rules, has_seals=has_seals,
+        )
         self.front = new_front(setting, self.limits, tokens_of(self.tokens), self.clock)
         self.server.state, self.is_admitting, self.written = "down", False, []
         self.watch.started(self)
@@ -226,7 +235,7 @@ class World:
         self.server, self.mislaid = self.mislaid or self.server, None
         self.disk.crash(self.source)
         self.server.die(self.source)
-        self.wires, self.leaving, self.timers, self.asked = {}, [], [], []
+        self.wires, self.leaving, self.timers, self.asked, self.lookups = {}, [], [], [], []
         self.is_admitting = self.is_board_begun = False
 
     def post(self, event: Event) -> None:
@@ -266,6 +275,8 @@ class World:
                 self.asked.remove(number)
             case effects.StartBoard():
                 self.is_board_begun = True
+            case effects.LookUp():
+                self.lookups.append(effect)
             case effects.Take() | effects.Wait() | effects.Answer() | effects.End() | effects.Abort():
                 self.perform_on_wire(effect)
             case effects.StartServer() | effects.DropServer() | effects.EndServer() | effects.Tell():
@@ -380,9 +391,7 @@ class World:
     def move_disk(self) -> None:
         """Syncs some entries, or everything beside the record."""
         if self.disk.writes and (not self.disk.puts or self.source.random() < 0.5):
-            count = self.source.randint(1, len(self.disk.writes))
-            self.disk.sync(count)
-            self.post(events.Synced(count, self.disk.place))
+            self.post(self.disk.synced(self.source.randint(1, len(self.disk.writes))))
         elif self.disk.puts and (event := self.disk.sync_beside()):
             self.post(event)
 

@@ -8,7 +8,8 @@ from hypothesis import given
 from hypothesis import strategies as some
 
 from generators import auction_of, lines_of, questions_of
-from hpb.file import AuctionFile, Layout, read_auction
+from hpb.file import AuctionFile, Layout, auctions_in, read_auction, state_of
+from hpb.file.slots import read_state
 from hpb.lines import Accepted, format_answer
 from hpb.refusals import BadFrame, BadHead, NoCheckpoint, Refused, Unformatted
 from hpb.rules import Auction, answer, begin, read_definition
@@ -46,6 +47,37 @@ def test_what_the_program_keeps_is_read(program: Program, seed: int, layout: Lay
     assert (found.head.layout, found.head.frames, found.head.state_format) == (layout, 16, 2)
     answered, wanted = shown_by(program, image, found.auction)
     assert answered == wanted
+
+
+@few(8)
+@given(some.integers(0, 2**32), some.sampled_from(Layout))
+def test_a_state_has_the_bytes_of_a_slot(program: Program, seed: int, layout: Layout) -> None:
+    """But for the batch index, which counts the batches of one file."""
+    definition, commands, auction = auction_of(seed, commands=60)
+    image = kept_by(program, definition, lines_of(commands), layout, 1, every=1)
+    for gate in (3 * PAGE, 8 * PAGE):
+        body = bytearray(image[gate + PAGE : gate + 5 * PAGE])
+        body[16:24] = bytes(8)
+        # A slot that was never written is closed.
+        assert image[gate] != 0xA5 or state_of(read_state(bytes(body), auction.tree.definition).auction) == body
+    assert read_auction(image).checkpoint.auction == auction
+
+
+@few(6)
+@given(some.integers(0, 2**32), some.sampled_from(Layout), some.sampled_from([1, 5, 64]))
+def test_the_auctions_that_a_file_still_shows_are_those_after_its_last_commands(program: Program, seed: int, layout: Layout, batch: int) -> None:
+    definition, commands, newest = auction_of(seed, commands=120)
+    image = kept_by(program, definition, lines_of(commands), layout, batch)
+    by_count = {0: begin(newest.tree.definition)}
+    for line in lines_of(commands):
+        told = by_count[max(by_count)]
+        told, _ = answer(told, line)
+        by_count[told.count] = told
+    shown = list(auctions_in(image))
+    assert all(one == by_count[one.count] for one in shown)
+    # All that behind the older slot's auction, or at least behind the newer one's.
+    counts = sorted({one.count for one in shown})
+    assert counts[-1] == newest.count and read_auction(image).checkpoint.auction.count in counts
 
 
 def test_a_long_auction_wraps_its_journal_and_checkpoints(program: Program) -> None:

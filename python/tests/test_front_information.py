@@ -7,7 +7,7 @@ import pytest
 
 from front_pairs import EXPORT, LINES, NEWS, PAGE, RULES, SIZES, differing, pair
 from hpb.front import sight
-from hpb.front.core import information, news, veil
+from hpb.front.core import information, news, sealing, veil
 from hpb.front.core.information import Viewer
 from hpb.front.core.state import Session
 from hpb.front.core.stepping import Step
@@ -32,6 +32,12 @@ def seeds_of(rule: int, count: int) -> range:
 def test_runs_that_differ_in_what_a_viewer_may_not_know_look_alike(viewer: str, rule: int) -> None:
     for seed in seeds_of(rule, SEEDS):
         assert differing(pair(seed, VIEWERS[viewer][seed % 2])) == [], seed
+
+
+@pytest.mark.parametrize("viewer", VIEWERS)
+def test_runs_with_seals_and_receipts_look_alike_but_for_hashes_and_numbers_of_entries(viewer: str) -> None:
+    for seed in range(2 * len(RULES)):
+        assert differing(pair(seed, VIEWERS[viewer][seed % 2], has_seals=True)) == [], seed
 
 
 @pytest.mark.slow
@@ -150,3 +156,9 @@ PLANTS: list[tuple[Plant, str]] = [
 def test_a_planted_leak_is_found_in_its_channel(plant: Plant, channel: str, monkeypatch: Patch) -> None:
     plant(monkeypatch)
     assert any(channel in differing(pair(seed, "ann")) for seed in range(PLANT_SEEDS))
+
+
+def test_a_planted_leak_of_receipts_is_found(monkeypatch: Patch) -> None:
+    """Everybody gets receipts for commands of others."""
+    monkeypatch.setattr(sealing, "seen_by", lambda viewer, fact: fact)
+    assert any(LINES in differing(pair(seed, "ann", has_seals=True)) for seed in range(PLANT_SEEDS))

@@ -1,4 +1,5 @@
 """Wheel and source distribution are built without a network, and each installed package can bid on a server."""
+import hashlib
 import pathlib
 import shutil
 import subprocess
@@ -10,8 +11,11 @@ import pytest
 from serving import DEFINITION, Program, Server
 
 PACKAGE = pathlib.Path(__file__).resolve().parents[1]
+VECTORS = PACKAGE.parent / "docs" / "vectors" / "seals.json"
 SECONDS = 100
 ASSETS = "from hpb.pages.page import STATIC; print([path.name for path in STATIC.iterdir()])"
+# What each bundle of an auction has from the package.
+BRINGS = "import hashlib; from hpb.report import archive; print(hashlib.sha256(archive.vectors()).hexdigest(), [len(archive.own(name)) for name in archive.CHECKERS])"
 BIDS = 'from hpb import Client; print(Client("127.0.0.1", {}).bid("x", "a", 100))'
 
 
@@ -24,10 +28,11 @@ def run(*words: object, folder: pathlib.Path, text: str = "") -> str:
 
 @pytest.fixture(scope="module")
 def built(tmp_path_factory: pytest.TempPathFactory) -> pathlib.Path:
-    """A folder with the wheel and the source distribution of a copy of the package."""
+    """A folder with the wheel and the source distribution of a copy of the package, beside the vectors of seals."""
     if "No module named" in subprocess.run([sys.executable, "-m", "build", "--version"], capture_output=True, text=True).stderr:
         pytest.skip("python3-build isn't installed")
     folder = tmp_path_factory.mktemp("build")
+    shutil.copytree(VECTORS.parent, folder / "docs" / "vectors")
     shutil.copytree(PACKAGE, folder / "python", ignore=shutil.ignore_patterns("__pycache__", "build", "dist", "*.egg-info", ".*"))
     run(sys.executable, "-m", "build", "--no-isolation", "--outdir", folder / "dist", folder / "python", folder=folder)
     return folder / "dist"
@@ -65,3 +70,5 @@ def run_commands(scripts: pathlib.Path, program: Program, image: bytes, folder: 
     for name in ("board", "client", "front", "replay", "watch", "web"):
         assert run(scripts / f"hpb-{name}", "--help", folder=folder).startswith(f"usage: hpb-{name} ")
     assert "board.css" in run(scripts / "python", "-I", "-c", ASSETS, folder=folder)
+    sizes = [(PACKAGE / "src" / "hpb" / "seals" / name).stat().st_size for name in ("verify.mjs", "state.mjs")]
+    assert run(scripts / "python", "-I", "-c", BRINGS, folder=folder) == f"{hashlib.sha256(VECTORS.read_bytes()).hexdigest()} {sizes}\n"

@@ -24,10 +24,10 @@ from hpb.commands import parser, write_out
 from hpb.commands.shell import end_by_signals, from_shell, say
 from hpb.file import read_image
 from hpb.refusals import HpbError, says
-from hpb.report.archive import LIST, archive
+from hpb.report.archive import LIST, Wanted, archive
 from hpb.seals.openssl import NoOpenssl
 from hpb.seals.receipt import NoReceipt, Receipt, read_receipt
-from hpb.seals.verifying import Missing, read_key
+from hpb.seals.verifying import Missing, read_keys
 
 _FAILED = 1
 
@@ -51,7 +51,8 @@ class NotMade(HpbError):
 
 def add_words(words: argparse.ArgumentParser) -> None:
     """The arguments about checks."""
-    words.add_argument("--key", required=True, metavar="KEY", help="the public key of the seals")
+    words.add_argument("--key", action="append", required=True, metavar="KEY", help="the public key of the seals. If it was changed, all of them, in the order of "
+                       "their use")
     words.add_argument("--authority", metavar="FILE", help="the certificates of the authority that stamps, in PEM")
     words.add_argument("--receipt", action="append", default=[], metavar="FILE", help="a receipt of a bidder")
 
@@ -59,9 +60,10 @@ def add_words(words: argparse.ArgumentParser) -> None:
 def make(given: argparse.Namespace, folder: pathlib.Path) -> str:
     """Makes the bundle. Returns the words about each check, and the sum of the list of files. A NotMade says why there is none."""
     try:
+        keys = [key for text in given.key for key in read_keys(text)]
         authority = pathlib.Path(given.authority).read_bytes() if given.authority else b""
         checked = archive(
-            given.record, read_image(given.file), read_key(given.key), authority, read_receipts(given.receipt), given.program, folder,
+            Wanted(given.record, read_image(given.file), keys, authority, read_receipts(given.receipt), given.program), folder,
         )
         digest = hashlib.sha256((folder / LIST).read_bytes()).hexdigest()
     except (Missing, NoOpenssl) as fault:

@@ -28,7 +28,8 @@ from hpb.file import read_image
 from hpb.refusals import HpbError, says
 from hpb.report.closing import read_report
 from hpb.report.page import page
-from hpb.seals.checking import Given, check
+from hpb.seals.checked import Given
+from hpb.seals.checking import check
 from hpb.seals.openssl import NoOpenssl
 from hpb.seals.sums import sums_of
 

@@ -3,7 +3,8 @@ from hpb.file.frames import Batch
 from hpb.file.head import Head, read_head
 from hpb.file.layout import Layout
 from hpb.file.opening import read_image
-from hpb.file.reading import AuctionFile, read_auction
+from hpb.file.reading import AuctionFile, auctions_in, read_auction
 from hpb.file.slots import Checkpoint
+from hpb.file.states import state_of
 
-__all__ = ["AuctionFile", "Batch", "Checkpoint", "Head", "Layout", "read_auction", "read_head", "read_image"]
+__all__ = ["AuctionFile", "Batch", "Checkpoint", "Head", "Layout", "auctions_in", "read_auction", "read_head", "read_image", "state_of"]

@@ -51,6 +51,20 @@ def read_record(definition: Definition, record: bytes) -> Command:
     raise NoRecord(f"a record is of kind {kind}")
 
 
+def write_record(definition: Definition, command: Command) -> bytes:
+    """The record of a command. Its bidder and its node have to be the definition's."""
+    bidders, nodes = [bidder.name for bidder in definition.bidders], [node.name for node in definition.nodes]
+    match command:
+        case Bid(bidder, node, amount, ticket):
+            return RECORD.pack(_BID, bidders.index(bidder), nodes.index(node), 0, ticket, amount)
+        case Close(ticket):
+            return RECORD.pack(_CLOSE, 0, 0, 0, ticket, 0)
+        case Stage(ticket):
+            return RECORD.pack(_STAGE, 0, 0, 0, ticket, 0)
+        case Waive(bidder, ticket):
+            return RECORD.pack(_WAIVE, bidders.index(bidder), 0, 0, ticket, 0)
+
+
 def index_in(image: bytes, head: Head, batch: int) -> int | None:
     """The index in the frame of a batch, or None if the frame's gate is closed."""
     at = head.layout.frame_at(head.frames, batch)

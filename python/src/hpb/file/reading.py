@@ -1,9 +1,10 @@
 """Reads a whole auction's file, as `hpb` opens it, and never writes it (docs/DEVICE.md, how a device is opened)."""
+from collections.abc import Iterator
 from dataclasses import dataclass
 
 from hpb.file.frames import Batch, index_in, read_batch
 from hpb.file.head import Head, read_head
-from hpb.file.slots import Checkpoint, read_newest
+from hpb.file.slots import Checkpoint, read_newest, read_slots
 from hpb.lines import Accepted
 from hpb.refusals import BadFrame
 from hpb.rules.auction import Auction, apply
@@ -40,7 +41,31 @@ def read_auction(image: bytes) -> AuctionFile:
     return AuctionFile(head, checkpoint, tuple(batches), auction)
 
 
+def auctions_in(image: bytes) -> Iterator[Auction]:
+    """Each auction that a file still shows: those of both slots, and behind each of them those after the commands of the batches that are still
+    there, up to the first batch that isn't. An auction may come twice. The newest one is that of `read_auction`. The head is refused as there.
+    """
+    head = read_head(image)
+    for checkpoint in read_slots(image, head.definition)[0]:
+        auction = checkpoint.auction
+        yield auction
+        for index in range(checkpoint.batches, checkpoint.batches + head.frames):
+            if index_in(image, head, index) != index:
+                break
+            try:
+                for auction in _after_each(auction, read_batch(image, head, index)):
+                    yield auction
+            except BadFrame:
+                break
+
+
 def _taken(auction: Auction, batch: Batch) -> Auction:
+    *_, auction = _after_each(auction, batch)
+    return auction
+
+
+def _after_each(auction: Auction, batch: Batch) -> Iterator[Auction]:
+    """The auction after each command of a batch, which has at least one."""
     if batch.first != auction.count + 1:
         raise BadFrame(f"batch {batch.index}: its first command is number {batch.first}, behind {auction.count}")
     for command in batch.commands:
@@ -48,4 +73,4 @@ def _taken(auction: Auction, batch: Batch) -> Auction:
         auction, answered = apply(auction, command)
         if answered != Accepted(before + 1):
             raise BadFrame(f"batch {batch.index}: {command} isn't newly accepted")
-    return auction
+        yield auction

@@ -13,11 +13,11 @@ from hpb.rules.definition import Definition
 from hpb.rules.standing import standing_of
 from hpb.rules.tree import Tree, tree_of
 
-_FRONT: Final = struct.Struct(">4BII4sQII16s")
-_NODE: Final = struct.Struct(">QQBB6s")
-_BIDDER: Final = struct.Struct(">III2B2s16s16s")
-_NODES_AT, _BIDDERS_AT, _END_AT = 48, 3096, 6168
-_FIRST_FORMAT, _WAIVERS_FORMAT = 1, 2
+FRONT: Final = struct.Struct(">4BII4sQII16s")
+NODE: Final = struct.Struct(">QQBB6s")
+BIDDER: Final = struct.Struct(">III2B2s16s16s")
+NODES_AT, BIDDERS_AT, END_AT = 48, 3096, 6168
+FIRST_FORMAT, WAIVERS_FORMAT = 1, 2
 
 
 class NoState(ValueError):
@@ -37,6 +37,14 @@ def read_newest(image: bytes, definition: Definition) -> Checkpoint:
     """Of the slots that hold a state, the one that covers more batches; if both cover as many, the first. If neither does, refused
     by `NoCheckpoint` (44).
     """
+    found, faults = read_slots(image, definition)
+    if not found:
+        raise NoCheckpoint("; ".join(faults))
+    return max(found, key=lambda checkpoint: checkpoint.batches)
+
+
+def read_slots(image: bytes, definition: Definition) -> tuple[list[Checkpoint], list[str]]:
+    """The states of both slots, and for each slot that holds none the reason."""
     found, faults = [], []
     for number, at in enumerate(SLOTS, 1):
         if not gate_is_open(image, at):
@@ -46,23 +54,21 @@ def read_newest(image: bytes, definition: Definition) -> Checkpoint:
             found.append(read_state(image[at + PAGE : at + PAGE + SLOT_BODY], definition))
         except NoState as fault:
             faults.append(f"slot {number}: {fault}")
-    if not found:
-        raise NoCheckpoint("; ".join(faults))
-    return max(found, key=lambda checkpoint: checkpoint.batches)
+    return found, faults
 
 
 def read_state(body: bytes, definition: Definition) -> Checkpoint:
     """The auction in a slot's body of 16,384 bytes, in either format. If the bytes hold none, `NoState` is raised."""
-    form, stage, over, spare, round_, count, zero, batches, ticket, number, record = _FRONT.unpack_from(body)
-    _look(form == _WAIVERS_FORMAT or (form == _FIRST_FORMAT and not definition.waivers), f"its format is {form}")
+    form, stage, over, spare, round_, count, zero, batches, ticket, number, record = FRONT.unpack_from(body)
+    _look(form == WAIVERS_FORMAT or (form == FIRST_FORMAT and not definition.waivers), f"its format is {form}")
     _look(1 <= stage <= len(definition.stages) and over <= 1 and not spare and not any(zero), "its front isn't of its format")
     _look(count <= MOST_COMMANDS and 1 <= round_ <= count + 1 and batches <= count, "its round, count or batches are out of range")
-    _look(not any(body[_END_AT:]), "what stands behind its bidders isn't zero")
+    _look(not any(body[END_AT:]), "what stands behind its bidders isn't zero")
     tree = tree_of(definition)
-    high, incoming = _read_bids(body[_NODES_AT:_BIDDERS_AT], tree)
+    high, incoming = _read_bids(body[NODES_AT:BIDDERS_AT], tree)
     auctioneer = _read_last(definition, ticket, number, record, count)
     _look(auctioneer is None or isinstance(auctioneer.command, Close | Stage), "the auctioneer's last command isn't its own")
-    bidders = _read_bidders(body[_BIDDERS_AT:_END_AT], definition, count, form)
+    bidders = _read_bidders(body[BIDDERS_AT:END_AT], definition, count, form)
     _look_at_bid_on(bidders, incoming, bool(over))
     found = standing_of(tree, {name: bid.amount for name, bid in high.items()})
     auction = Auction(tree, bidders, high, incoming, found, round_, stage, bool(over), count, auctioneer)
@@ -76,8 +82,8 @@ def _look(is_right: bool, fault: str) -> None:
 
 def _read_bids(part: bytes, tree: Tree) -> tuple[dict[str, HighBid], dict[str, HighBid]]:
     """The high bids of closed rounds and of the open one."""
-    entries = list(_NODE.iter_unpack(part))
-    _look(not any(part[len(tree.nodes) * _NODE.size :]), "what stands behind its nodes isn't zero")
+    entries = list(NODE.iter_unpack(part))
+    _look(not any(part[len(tree.nodes) * NODE.size :]), "what stands behind its nodes isn't zero")
     high: dict[str, HighBid] = {}
     incoming: dict[str, HighBid] = {}
     for name, (first, second, bidder, other, zero) in zip(tree.nodes, entries):
@@ -110,16 +116,16 @@ def _read_last(definition: Definition, ticket: int, number: int, record: bytes, 
 
 
 def _read_bidders(part: bytes, definition: Definition, count: int, form: int) -> dict[str, BidderState]:
-    _look(not any(part[len(definition.bidders) * _BIDDER.size :]), "what stands behind its bidders isn't zero")
+    _look(not any(part[len(definition.bidders) * BIDDER.size :]), "what stands behind its bidders isn't zero")
     bidders = {}
-    for bidder, fields in zip(definition.bidders, _BIDDER.iter_unpack(part)):
+    for bidder, fields in zip(definition.bidders, BIDDER.iter_unpack(part)):
         eligibility, ticket, number, waivers, waived, zero, record, bits = fields
         _look(not any(zero) and waived <= 1 and eligibility <= bidder.units, f"{bidder.name} has a byte that isn't of its format")
         _look(waivers + waived <= definition.waivers, f"{bidder.name} has {waivers} waivers")
         last = _read_last(definition, ticket, number, record, count)
         if last:
             is_own = not isinstance(last.command, Close | Stage) and last.command.bidder == bidder.name
-            _look(is_own and (form == _WAIVERS_FORMAT or isinstance(last.command, Bid)), f"the last command of {bidder.name} isn't its own")
+            _look(is_own and (form == WAIVERS_FORMAT or isinstance(last.command, Bid)), f"the last command of {bidder.name} isn't its own")
         bid_on = _read_nodes(definition, int.from_bytes(bits, "big"))
         bidders[bidder.name] = BidderState(eligibility, waivers, bool(waived), bid_on, last)
     return bidders

@@ -1,4 +1,5 @@
 """The seals of a front: the table `[seals]` of a configuration, its key, and the answers to lines about seals (docs/VERIFY.md)."""
+import asyncio
 import os
 import pathlib
 import re
@@ -19,6 +20,8 @@ Table = dict[str, Any]
 KEY, CREDENTIAL, STAMPS, AUTHORITY = "key", "credential", "stamps", "authority"
 FIELDS = {KEY, CREDENTIAL, STAMPS, AUTHORITY}
 _URL = re.compile(r"https?://[!-~]+")
+# The pause before something is looked up again for which memory was refused.
+AGAIN_SECONDS = 0.5
 
 
 @dataclass(frozen=True)
@@ -133,12 +136,22 @@ class Finder:
         self.begin(self.answer(effect))
 
     async def answer(self, effect: LookUp) -> None:
-        self.post(await self.worker.do(effect))
+        """Looks up until memory isn't refused."""
+        while True:
+            try:
+                self.post(await self.worker.do(effect))
+                return
+            except MemoryError:
+                await asyncio.sleep(AGAIN_SECONDS)
 
     def found(self, effect: LookUp) -> LookedUp:
-        """Runs in the thread."""
+        """Runs in the thread. A Stops says that the record can't be read, or was changed."""
         if effect.what == "SEAL":
             return LookedUp(effect.session, self.book.seal_line(effect.number) or "")
-        if found := self.book.receipt(effect.number):
-            return LookedUp(effect.session, found.receipt, found.line.encode("latin-1"))
-        return LookedUp(effect.session)
+        try:
+            found = self.book.receipt(effect.number)
+        except Damaged as fault:
+            raise Stops(f"another program changed the record: {fault}") from None
+        except OSError as fault:
+            raise Stops(f"the record can't be read: {fault.strerror}") from None
+        return LookedUp(effect.session, found.receipt, found.line.encode("latin-1")) if found else LookedUp(effect.session)

@@ -14,6 +14,7 @@ from hpb.report.rest import bidders_section, definition_section, record_section,
 from hpb.report.result import certificate_section, found_again_section, nodes_section, result_section, tree_section
 from hpb.rounds import MOCK, NOTICE
 from hpb.rules.mock import MARK, is_mock
+from hpb.rules.tree import Tree
 
 _STYLE: Final = pathlib.Path(__file__).with_name("report.css")
 _SECTIONS = (
@@ -46,9 +47,14 @@ def _state_of(shown: Shown) -> str:
     return "over" if shown.is_over else "open"
 
 
-def _notices(report: Report) -> Iterator[Markup]:
-    if is_mock(report.tree.definition):
+def mock_notice(tree: Tree) -> Iterator[Markup]:
+    """Says of a mock that it is one."""
+    if is_mock(tree.definition):
         yield notice(strong(NOTICE), f" The bidder {MARK} marks it, and nobody bids for that.", is_fault=False)
+
+
+def _notices(report: Report) -> Iterator[Markup]:
+    yield from mock_notice(report.tree)
     for fault in report.faults:
         yield notice(strong("Not right: "), fault, ".", is_fault=True)
     shown = report.told.shown

@@ -70,7 +70,7 @@ def certificate_section(report: Report) -> Markup:
     steps = [
         ("The winners' bids", "No winner lies in another one, and their bids together are the revenue:", equation(winners, revenue)),
         ("The licences' prices", "All of them together, in the order of the definition, are the revenue too:", equation(licences, revenue)),
-        ("The nodes' prices", "Each package's price is the sum of its licences' prices:", _package_sums(tree, nodes)),
+        ("The nodes' prices", "Each package's price is the sum of its licences' prices:", package_sums(tree, nodes)),
         ("The high bids", "None is above its node's price:", _bids_and_prices(nodes)),
     ]
     told = (
@@ -86,7 +86,8 @@ def certificate_section(report: Report) -> Markup:
     return section("sums", "The sums that show it", paragraph(told), element("ol", *items), paragraph(why))
 
 
-def _package_sums(tree: Tree, nodes: Mapping[str, NodeShown]) -> Markup:
+def package_sums(tree: Tree, nodes: Mapping[str, NodeShown]) -> Markup:
+    """A row for each package, with the sum of its licences' prices."""
     columns = [text_column("Package"), text_column("Prices of its licences"), Column("Together"), Column("Its price")]
     rows: list[Row] = []
     for name, node in tree.nodes.items():

@@ -4,7 +4,9 @@ from dataclasses import dataclass
 
 from hpb.lines import NoAnswer, NodeShown, Shown, WhoShown, parse_answer
 from hpb.refusals import HpbError
+from hpb.rules.auction import Auction, BidderState, HighBid, LastCommand
 from hpb.rules.prices import minimum
+from hpb.rules.standing import standing_of
 from hpb.rules.tree import Tree
 
 _BEGINNINGS = ("ROUND ", "NODE ", "WHO ")
@@ -92,3 +94,19 @@ def look_whose(tree: Tree, told: Told, has_pseudonyms: bool = False) -> None:
             raise NotTold(f"another definition: {name} has an eligibility of {who.eligibility:,} and {who.waivers_left} waivers")
     if told.shown.stage > len(tree.definition.stages):
         raise NotTold(f"another definition: it has no stage {told.shown.stage}")
+
+
+def auction_of(tree: Tree, told: Told, lasts: Mapping[str | None, LastCommand]) -> Auction:
+    """The auction after a close, before any later command, by the answers and by the last command of each sender (None is the auctioneer). If
+    the answers aren't those of such an auction, `NotTold` is raised: a bidder is missing, or a sender has another ticket than its last command.
+    """
+    look_whose(tree, told)
+    tickets = {None: told.shown.next_ticket - 1, **{name: who.ticket for name, who in told.whos.items()}}
+    for sender in (None, *tree.bidders):
+        last = lasts.get(sender)
+        if tickets.get(sender) != (last.command.ticket if last else 0):
+            raise NotTold(f"the last command of {sender or 'the auctioneer'} isn't known")
+    bidders = {name: BidderState(told.whos[name].eligibility, told.whos[name].waivers_left, last=lasts.get(name)) for name in tree.bidders}
+    high = {name: HighBid(node.high, node.bidder) for name, node in told.nodes.items() if node.bidder is not None}
+    shown, standing = told.shown, standing_of(tree, told.high)
+    return Auction(tree, bidders, high, {}, standing, shown.round, shown.stage, shown.is_over, shown.count, lasts.get(None))

@@ -1,10 +1,11 @@
 """Reads a record as it stands: each entry with its hash, up to the first one that isn't as a front wrote it."""
+import json
 import os
 from dataclasses import dataclass, field
 from typing import Any
 
 from hpb.record import Damaged, WrongSegment
-from hpb.record.entries import HASH_BYTES, MOST_ENTRY, NO_HASH, Entry, content_of, is_sealed
+from hpb.record.entries import HASH_BYTES, MOST_ENTRY, NO_HASH, Entry, is_sealed
 from hpb.record.segments import Reader, segment_paths
 from hpb.seals.findings import Findings
 from hpb.seals.statement import SEAL
@@ -36,10 +37,12 @@ class Chain:
 
 
 def ends_in_order(chain: Chain) -> bool:
-    """Whether the last entry is the one by which a front ends: `stopped`, or the seal behind it."""
-    last = chain.entries[-1]
+    """Whether the last entry is the one by which a front ends: `stopped`, or the seal behind it. A segment may end, and the next one begin, behind
+    each entry."""
+    entries = [entry for entry in chain.entries[1:] if entry["kind"] not in ("sealed", "begin")]
+    last = entries[-1] if entries else {"kind": ""}
     if chain.of_kind(SEAL):
-        return last["kind"] == SEAL and " ROUND 0 " in str(last.get("seal")) and chain.entries[-2]["kind"] == "stopped"
+        return len(entries) > 1 and last["kind"] == SEAL and " ROUND 0 " in str(last.get("seal")) and entries[-2]["kind"] == "stopped"
     return bool(last["kind"] == "stopped")
 
 
@@ -59,7 +62,7 @@ def read_chain(path: str, findings: Findings) -> Chain:
         return chain
     if not chain.entries or chain.entries[0]["kind"] != "begin" or "definition" not in chain.entries[0]:
         findings.add("record", 0, "it doesn't begin as a record does")
-        return chain
+        return Chain()
     try:
         for _ in Reader(path).entries():
             pass
@@ -82,7 +85,7 @@ def _read_segment(path: str, chain: Chain, findings: Findings) -> bool:
             if fault := _fault_of(line, chain):
                 findings.add(*fault)
                 return False
-            chain.entries.append(content_of(line))
+            chain.entries.append(_entry_in(line))
             chain.hashes.append(line[:HASH_BYTES].decode())
     return True
 
@@ -93,14 +96,24 @@ def _fault_of(line: bytes, chain: Chain) -> tuple[str, int, str] | None:
         return "cut", number, "the record ends within it"
     if not is_sealed(line):
         return "changed", number, "its hash isn't that of its text"
-    try:
-        entry = content_of(line)
-    except Damaged:
-        entry = {}
+    entry = _entry_in(line)
     if not _NEEDED <= entry.keys():
         return "changed", number, "it is no entry of a record"
-    if entry["entry"] != number:
+    if isinstance(entry["entry"], bool) or entry["entry"] != number:
         return "order", number, f"entry {entry['entry']} stands in its place: one was left out, doubled or moved"
     if entry["before"] != before:
         return "before", number, "the hash that it names isn't that of the entry before it"
     return None
+
+
+def _entry_in(line: bytes) -> Entry:
+    """The entry in a line, as all checkers read it: ASCII, and an object of JSON with no more numbers than JSON has. Else nothing."""
+    try:
+        found = json.loads(line[HASH_BYTES + 1 :].decode("ascii"), parse_constant=_no_number)
+    except (ValueError, RecursionError):
+        return {}
+    return found if isinstance(found, dict) else {}
+
+
+def _no_number(text: str) -> None:
+    raise ValueError(text)

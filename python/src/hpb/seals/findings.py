@@ -18,6 +18,7 @@ WORDS: Final = {
     "key": "its seal was signed by another key",
     "signature": "its seal's signature isn't right",
     "answers": "its answers aren't those that its seal names, or that the commands lead to",
+    "state": "the state that its seal names isn't the one to which the commands lead, or that the file shows",
     "stamp": "its stamp isn't that of its seal, or isn't in order",
     "receipt": "the receipt for it doesn't fit it",
     "kept": "a seal that somebody kept isn't that of the record",

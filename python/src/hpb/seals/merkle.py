@@ -47,6 +47,10 @@ class MerkleTree:
                 self._levels.append(bytearray())
             self._levels[level] += made
 
+    def has(self, index: int, data: bytes) -> bool:
+        """Whether the leaf at this index, from 0, has this data."""
+        return 0 <= index < self.size and self._at(0, index) == leaf_hash(data)
+
     def root(self, size: int | None = None) -> bytes:
         """The root of the first leaves. A ValueError says that there aren't so many."""
         return self._range(0, self._looked_at(self.size if size is None else size))

@@ -11,7 +11,7 @@ from typing import Final
 
 OPENSSL: Final = "openssl"
 # The beginning of a public key of Ed25519 in DER (RFC 8410); its 32 bytes follow.
-_PUBLIC: Final = bytes.fromhex("302a300506032b6570032100")
+PUBLIC: Final = bytes.fromhex("302a300506032b6570032100")
 _TIME: Final = re.compile(r"^Time stamp: (.*) GMT$", re.MULTILINE)
 _SECONDS: Final = 30
 
@@ -33,7 +33,7 @@ def _run(words: list[str], files: Mapping[str, bytes]) -> subprocess.CompletedPr
 
 def public_pem(public: str) -> bytes:
     """A public key of 64 hexadecimal digits in PEM, as `openssl pkey -pubout` writes it."""
-    text = base64.b64encode(_PUBLIC + bytes.fromhex(public)).decode()
+    text = base64.b64encode(PUBLIC + bytes.fromhex(public)).decode()
     return f"-----BEGIN PUBLIC KEY-----\n{text}\n-----END PUBLIC KEY-----\n".encode()
 
 
@@ -78,7 +78,10 @@ def time_in(token: bytes) -> str:
         return ""
     # Some authorities give parts of a second.
     text = re.sub(r"(:[0-9]{2})\.[0-9]+", r"\1", re.sub(" +", " ", found[1]))
-    return datetime.strptime(text, "%b %d %H:%M:%S %Y").strftime("%Y-%m-%dT%H:%M:%SZ")
+    try:
+        return datetime.strptime(text, "%b %d %H:%M:%S %Y").strftime("%Y-%m-%dT%H:%M:%SZ")
+    except ValueError:
+        return ""
 
 
 @functools.cache

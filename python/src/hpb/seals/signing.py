@@ -33,6 +33,18 @@ class Signer:
         return self._key.sign(text.encode("ascii")).hex()
 
 
+def is_signed(public: str, text: str, signature: str) -> bool:
+    """Whether this is the signature of a statement under a public key, as `hpb.seals.openssl.is_signed` finds by the program `openssl`."""
+    from cryptography.exceptions import InvalidSignature
+    from cryptography.hazmat.primitives.asymmetric.ed25519 import Ed25519PublicKey
+
+    try:
+        Ed25519PublicKey.from_public_bytes(bytes.fromhex(public)).verify(bytes.fromhex(signature), text.encode("ascii"))
+    except (InvalidSignature, ValueError):
+        return False
+    return True
+
+
 def read_key(path: str, is_credential: bool = False) -> Signer:
     """The key in a file. A NoKey says why there is none. Nobody but its owner may read it, unless it is a credential, which systemd keeps."""
     try:

@@ -18,8 +18,6 @@ _WORDS: Final = {
 }
 _STATEMENT: Final = re.compile(" ".join(f"{word} ({value})" for word, value in _WORDS.items()))
 _SIGNED: Final = re.compile("(.*) SIGNED ([0-9a-f]{128})")
-# The answers that show the results: to SHOW, and to NODE for each node.
-_RESULTS: Final = ("ROUND ", "NODE ")
 
 
 class NoSeal(ValueError):
@@ -30,8 +28,8 @@ class NoSeal(ValueError):
 class Seal:
     """A seal's statement. `number` counts the seals of a record from 1. `record` is the hash of its first entry, and `entries` how many there
     are before the seal's own. `root` is the root of their Merkle tree, and `last` the hash of the last of them. `round` is the round that was
-    closed, or 0 at the end of a front, and `count` how many commands were accepted by then. `definition`, `state` and `results` are SHA-256 sums, and `key` the public
-    key.
+    closed, or 0 at the end of a front, and `count` how many commands were accepted by then. `definition`, `state` and `results` are SHA-256 sums,
+    and `key` is the public key.
     """
 
     number: int
@@ -90,14 +88,14 @@ def signed_seal_of(entry: Entry) -> SignedSeal:
     return read_signed(f"{entry.get('seal')} SIGNED {entry.get('signature')}")
 
 
-def sum_of(salt: str, answers: Sequence[str]) -> str:
-    """The SHA-256 of some answers, each with an LF, behind the line of a salt. Without the salt nobody can try answers one after the other."""
-    return hashlib.sha256("".join(f"{line}\n" for line in [salt, *answers]).encode("latin-1")).hexdigest()
+def sum_of(salt: str, data: bytes) -> str:
+    """The SHA-256 of some bytes behind the line of a salt. Without the salt nobody can try contents one after the other."""
+    return hashlib.sha256(salt.encode("ascii") + b"\n" + data).hexdigest()
 
 
-def results_in(answers: Sequence[str]) -> list[str]:
-    """Of the answers of a state, those to SHOW and NODE."""
-    return [line for line in answers if line.startswith(_RESULTS)]
+def results_sum(salt: str, answers: Sequence[str]) -> str:
+    """That of the answers after a close, each with an LF. Salt and answers have to be ASCII."""
+    return sum_of(salt, "".join(f"{line}\n" for line in answers).encode("ascii"))
 
 
 def definition_sum(definition: Any) -> str:

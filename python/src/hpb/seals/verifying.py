@@ -8,8 +8,9 @@ from typing import Final
 
 from hpb.file import read_image
 from hpb.rules.writing import read_script
-from hpb.seals.checking import Checked, Given, check
-from hpb.seals.openssl import NoOpenssl
+from hpb.seals.checked import Checked, Given
+from hpb.seals.checking import check
+from hpb.seals.openssl import PUBLIC, NoOpenssl
 from hpb.seals.receipt import NoReceipt, Receipt, read_receipt
 from hpb.seals.statement import NoSeal, SignedSeal, read_signed
 from hpb.seals.sums import difference, sums_named, sums_of
@@ -18,7 +19,7 @@ from hpb.seals.sums import difference, sums_named, sums_of
 RECORD, FILE, DEFINITION, KEY, AUTHORITY, SEALS, REPORT, RECEIPTS = (
     "auction.record", "auction.hpb", "definition.json", "key.txt", "authority.pem", "seals.txt", "report.html", "receipts",
 )
-_KEY: Final = re.compile(r"\s*([0-9a-f]{64})\s*")
+_KEYS: Final = re.compile(r"\s*[0-9a-f]{64}(\s+[0-9a-f]{64})*\s*")
 _PEM: Final = re.compile(r"-----BEGIN PUBLIC KEY-----\s*([A-Za-z0-9+/=]+)\s*-----END PUBLIC KEY-----")
 
 
@@ -32,7 +33,8 @@ def add_words(words: argparse.ArgumentParser) -> None:
     words.add_argument("--record", metavar="FILE", help="the record's first segment")
     words.add_argument("--file", metavar="FILE", help="a copy of the auction's file")
     words.add_argument("--definition", metavar="FILE", help="the definition that was announced")
-    words.add_argument("--key", action="append", default=[], metavar="KEY", help="the public key that was announced: its digits, or a file with them or of PEM")
+    words.add_argument("--key", action="append", default=[], metavar="KEY", help="the public key that was announced: its digits, or a file with them or of PEM. "
+                       "If the key was changed, all of them, in the order of their use")
     words.add_argument("--authority", metavar="FILE", help="the certificates of the authority that stamps, in PEM")
     words.add_argument("--receipt", action="append", default=[], metavar="FILE", help="a receipt, as the front answers RECEIPT")
     words.add_argument("--seals", metavar="FILE", help="seals that somebody kept, one a line, as the front answers SEAL")
@@ -51,15 +53,13 @@ def in_bundle(given: argparse.Namespace) -> argparse.Namespace:
     return given
 
 
-def read_key(text: str) -> str:
-    """A public key: 64 hexadecimal digits, or a file with them, or with a key in PEM."""
-    if _KEY.fullmatch(text):
-        return text.strip()
-    found = _read(text)
-    if digits := _KEY.fullmatch(found):
-        return digits[1]
-    if pem := _PEM.search(found):
-        return base64.b64decode(pem[1])[-32:].hex()
+def read_keys(text: str) -> list[str]:
+    """Public keys: 64 hexadecimal digits, or a file with such digits, a key a line in the order of their use, or with a key in PEM."""
+    found = text if _KEYS.fullmatch(text) else _read(text)
+    if _KEYS.fullmatch(found):
+        return found.split()
+    if (pem := _PEM.search(found)) and (data := base64.b64decode(pem[1])).startswith(PUBLIC) and len(data) == len(PUBLIC) + 32:
+        return [data[-32:].hex()]
     raise Missing(f"{text} has no public key of Ed25519")
 
 
@@ -93,7 +93,7 @@ def verify(given: argparse.Namespace) -> Checked:
     """Checks all that the words name. A Missing says what can't be read; whatever `read_script` and `read_image` raise goes through."""
     image = read_image(given.file) if given.file else None
     wanted = Given(
-        keys=[read_key(key) for key in given.key],
+        keys=[key for text in given.key for key in read_keys(text)],
         authority=_read(given.authority).encode("latin-1") if given.authority else b"",
         definition=read_script(_read(given.definition).encode("latin-1")) if given.definition else None,
         image=image,

@@ -11,8 +11,8 @@ from hpb.front.core.state import Front, Item, Phase, Sealing, Stage
 from hpb.front.core.stepping import Step
 from hpb.front.core.values import changed
 from hpb.front.rights import NOT_KNOWN, UNSEALED, is_close, refused
-from hpb.lines import NoAnswer, Shown, format_answer, parse_answer
 from hpb.record.entries import text_of
+from hpb.rules.told import NotTold, look_whose, read_told
 
 SEAL, STAMP = "seal", "stamp"
 
@@ -53,15 +53,19 @@ def hear(step: Step, answer: bytes) -> None:
     sealing = change(step, answers=(*step.front.sealing.answers, text_of(answer)))
     if len(sealing.answers) < len(matching.questions_of_state(step.front.setting.tree)):
         return
+    tree = step.front.setting.tree
     try:
-        shown = parse_answer(sealing.answers[0])
-    except NoAnswer:
-        shown = None
-    if not isinstance(shown, Shown) or shown.count != sealing.closed:
-        step.finish(f"the seal of the last close can't be made: command {sealing.closed} closed it, and the server shows {sealing.answers[0]!r}")
+        told = read_told(tree, sealing.answers)
+        look_whose(tree, told)
+    except NotTold as fault:
+        step.finish(f"the last close can't be sealed: {fault}")
+        return
+    shown = told.shown
+    if shown.count != sealing.closed:
+        step.finish(f"the last close can't be sealed: it was command {sealing.closed}, and the server shows {sealing.answers[0]!r}")
         return
     closed = shown.round if shown.is_over else shown.round - 1
-    step.write(SEAL, round=closed, count=shown.count, answers=[format_answer(shown), *sealing.answers[1:]])
+    step.write(SEAL, round=closed, count=shown.count, answers=list(sealing.answers))
     change(step, entry=step.front.ledger.written, answers=())
 
 
