@@ -1,4 +1,4 @@
-"""Puts the vectors of seals into what is built. In the tree they stand once, in docs/vectors, and `hpb-archive` copies them into bundles."""
+"""Puts the vectors of seals into packages that are built. In the tree they stand once, in docs/vectors, and `hpb-archive` copies them into bundles."""
 import shutil
 from pathlib import Path
 

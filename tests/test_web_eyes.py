@@ -118,7 +118,7 @@ def look(driver: Driver, name: str) -> None:
 def reach(driver: Driver, holds: str) -> Any:
     """Presses Tab until what has the keyboard is this, and can be seen."""
     for _ in range(60):
-        ActionChains(driver).send_keys(Keys.TAB).perform()
+        ActionChains(driver).send_keys(Keys.TAB).perform()  # type: ignore[no-untyped-call]
         if driver.execute_script(f"const one = document.activeElement; return {holds}"):
             at = "const at = document.activeElement.getBoundingClientRect(); return at.top >= 0 && at.bottom <= innerHeight && getComputedStyle(document.activeElement).outlineStyle !== 'none'"
             assert driver.execute_script(at), holds

@@ -224,7 +224,7 @@ def lies(made: Maker) -> Iterator[Case]:
 
     def lying(name: str, found: Callable[[int], list[str]], **fields: object) -> Case:
         writer = made.writer(has_stamps=False)
-        writer.take_key(made.signer, lambda seal: dataclasses.replace(seal, **fields) if seal.number == 1 else seal)  # type: ignore[arg-type]
+        writer.take_key(made.signer, lambda seal: dataclasses.replace(seal, **fields) if seal.number == 1 else seal)
         return made.case(name, writer.day().lines, found(made.first))
 
     yield lying("a seal lies about the state", lambda first: [f"state {first}"], state="0" * 64)

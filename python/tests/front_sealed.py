@@ -112,7 +112,7 @@ class Network:
         self.is_there = not self.is_there
 
     def move(self) -> None:
-        """A front that was started again knows no more what is on its way."""
+        """A front that was started again doesn't know any more which stamps are on their way."""
         book = book_of(self.world)
         self.book, self.posted = book, self.posted if book is self.book else 0
         signed = next((one for one in book.unstamped() if one.seal.number > self.posted), None)

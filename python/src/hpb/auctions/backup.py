@@ -14,7 +14,8 @@ from hpb.file import read_auction
 from hpb.record.entries import Place
 from hpb.refusals import Refused, says
 from hpb.seals.chain import read_chain
-from hpb.seals.checking import Checked, Given, look_at_commands, look_at_definition, look_at_file
+from hpb.seals.checked import Checked, Given
+from hpb.seals.checking import look_at_commands, look_at_definition, look_at_file
 from hpb.seals.findings import Findings
 
 # The list of a backup's files with the SHA-256 of each, as sha256sum writes and reads it. It is written last.

@@ -11,7 +11,8 @@ from hpb.rules.auction import Auction as Standing
 from hpb.rules.auction import show, show_bidder, show_node
 from hpb.rules.writing import fields_of
 from hpb.seals.chain import read_chain
-from hpb.seals.checking import Checked, Given, look_at_commands, look_at_definition
+from hpb.seals.checked import Checked, Given
+from hpb.seals.checking import look_at_commands, look_at_definition
 from hpb.seals.findings import Findings
 
 COLUMNS = ("number", "at", "round", "name", "command", "bidder", "ticket", "node", "amount")

@@ -42,8 +42,9 @@ def read_auction(image: bytes) -> AuctionFile:
 
 
 def auctions_in(image: bytes) -> Iterator[Auction]:
-    """Each auction that a file still shows: those of both slots, and behind each of them those after the commands of the batches that are still
-    there, up to the first batch that isn't. An auction may come twice. The newest one is that of `read_auction`. The head is refused as there.
+    """Each auction that a file still shows: those of both slots, and those after each later command up to the first batch that isn't there any more.
+
+    An auction may come twice. The newest one is that of `read_auction`. The head is refused as there.
     """
     head = read_head(image)
     for checkpoint in read_slots(image, head.definition)[0]:

@@ -40,8 +40,10 @@ class NoBundle(HpbError):
 
 @dataclass(frozen=True)
 class Wanted:
-    """The things of which a bundle is made: the record's path, the file's bytes, the public keys in the order of their use, the certificates of an
-    authority, receipts by name, and the program that answers about the file."""
+    """The things of which a bundle is made. `keys` are public, in the order of their use; `authority` has the certificates of an authority.
+
+    `record` is a path, and `image` the file's bytes. `program` answers about the file.
+    """
 
     record: str
     image: bytes

@@ -11,14 +11,14 @@ from hpb.seals.statement import Seal
 
 _PAGE: Final = pathlib.Path(__file__).with_name("bundle.md")
 _FILES: Final = {
-    "auction.record": "who bid what and when, in order: the record, or its first segment",
+    "auction.record": "each bid with its name and time, in order: the record, or its first segment",
     "auction.hpb": "the file of the auction",
     "definition.json": "its definition",
     "key.txt": "the public key of the seals, or several in the order of their use",
     "key.pem": "the same as PEM",
     "authority.pem": "the certificates of the authority that stamped",
     "seals.txt": "all seals, one a line",
-    "seals/": "for each seal what is signed, stamped and summed",
+    "seals/": "for each seal its statement, its stamp and the sums",
     "rounds/": "for each round the winners, prices and sums",
     "results.txt": "the answers after each close",
     "report.html": "the auction at its end, with the sums of file, record and seals",
@@ -28,7 +28,7 @@ _FILES: Final = {
     "vectors.json": "trials for more checkers",
     "SHA256SUMS": "the sums of all these files",
 }
-_STAMPED: Final = """A stamp says that a seal was there at its time. Its key is the authority's, so the auctioneer can't have made it later. `line.txt` is what was stamped: the
+_STAMPED: Final = """A stamp says that a seal was there at its time. Its key is the authority's, so the auctioneer can't have made it later. `line.txt` has the stamped bytes: the
    statement, SIGNED and the signature, with a line feed. `stamp.tst` is its stamp by RFC 3161. Behind `-attime` is the stamp's time, since certificates end:
 
        openssl ts -reply -in seals/{0}/stamp.tst -token_in -text

@@ -101,7 +101,7 @@ def auction_of(tree: Tree, told: Told, lasts: Mapping[str | None, LastCommand]) 
     the answers aren't those of such an auction, `NotTold` is raised: a bidder is missing, or a sender has another ticket than its last command.
     """
     look_whose(tree, told)
-    tickets = {None: told.shown.next_ticket - 1, **{name: who.ticket for name, who in told.whos.items()}}
+    tickets: dict[str | None, int] = {None: told.shown.next_ticket - 1, **{name: who.ticket for name, who in told.whos.items()}}
     for sender in (None, *tree.bidders):
         last = lasts.get(sender)
         if tickets.get(sender) != (last.command.ticket if last else 0):

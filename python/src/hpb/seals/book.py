@@ -9,7 +9,7 @@ from typing import Final, NamedTuple
 
 from hpb.file import state_of
 from hpb.front.rights import sender_and_ticket
-from hpb.lines import Command, parse_line
+from hpb.lines import Bid, Close, Command, Stage, Waive, parse_line
 from hpb.record.entries import HASH_BYTES, Damaged, Entry, New, Place, content_of, is_sealed, text_of
 from hpb.record.segments import segment_path, segment_paths
 from hpb.rules.auction import LastCommand
@@ -179,7 +179,7 @@ class Book:
 
     def receipt(self, number: int) -> Found | None:
         """A command's receipt: the path from its entry to the last seal. None if there is no command with this number in the record. A Damaged
-        says that the record isn't any more what was written."""
+        says that the record was changed since."""
         if not 0 < number <= len(self._entries) or not self._entries[number - 1]:
             return None
         entry, line = self._entries[number - 1], self._line_of(number)
@@ -200,5 +200,5 @@ class Book:
 
 def _command(line: bytes) -> Command:
     found = parse_line(text_of(line))
-    assert isinstance(found, Command)
+    assert isinstance(found, (Bid, Waive, Close, Stage))
     return found

@@ -1,4 +1,4 @@
-"""What is given to a check of a record, and what the check has read so far (docs/VERIFY.md)."""
+"""The things given to a check of a record, and those that the check has read so far (docs/VERIFY.md)."""
 from collections.abc import Sequence
 from dataclasses import dataclass, field
 

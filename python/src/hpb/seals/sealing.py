@@ -49,7 +49,8 @@ def _count_behind(entry: Entry, count: int) -> int:
     """How many commands are accepted behind an entry."""
     if entry["kind"] == "accepted" and (found := _OK.fullmatch(str(entry.get("answer")))):
         return int(found[1])
-    return entry["to"] if entry["kind"] == "foreign" and type(entry.get("to")) is int else count
+    to = entry.get("to")
+    return to if entry["kind"] == "foreign" and isinstance(to, int) and not isinstance(to, bool) else count
 
 
 def _look_at_end(checked: Checked, given: Given, close: int, is_sealing: bool) -> None:

@@ -99,9 +99,9 @@ def look(request: web.Request, hosts: Collection[str]) -> None:
     """
     if len(request.headers.getall("Host", [])) != 1 or not is_own(request.headers["Host"], hosts):
         raise problem("host")
-    if request.headers.getall("Transfer-Encoding", []) or (request.method == "POST" and len(request.headers.getall("Content-Length", [])) != 1):
+    if "Transfer-Encoding" in request.headers or (request.method == "POST" and len(request.headers.getall("Content-Length", [])) != 1):
         raise problem("length")
-    if request.method == hdrs.METH_POST and request.headers.getall("Content-Encoding", []):
+    if request.method == hdrs.METH_POST and "Content-Encoding" in request.headers:
         raise problem("type", "a body has no coding here")
     if request.method == hdrs.METH_CONNECT or "websocket" in ",".join(request.headers.getall("Upgrade", [])).lower():
         raise problem("method", "there is no other protocol here")
