@@ -3,6 +3,7 @@
     tools/auction new sale --definition definition.json      makes the auction `sale`: file, tokens, certificate and configuration
     tools/auction start sale                                 starts its front; clients are let in when this ends
     tools/auction stop sale                                  stops it; each accepted command stays
+    tools/auction standby sale                               waits until nobody else serves it, as after a machine's loss, and serves it then
     tools/auction list                                       the state of all, with addresses, rounds and counts
     tools/auction status sale other --json                   that of these, as JSON
     tools/auction backup sale FOLDER                         a backup in a new folder, also while the front runs
@@ -39,7 +40,7 @@ import pathlib
 import sys
 from collections.abc import Callable
 
-from hpb.auctions import backup, deriving, exporting, making, moving, restoring, running
+from hpb.auctions import backup, deriving, exporting, making, moving, restoring, running, standby
 from hpb.auctions.backup import Backup
 from hpb.auctions.folder import STANDARD, Auction, Auctions, CantDo
 from hpb.auctions.status import as_json, status_of, table
@@ -55,7 +56,7 @@ def read_words() -> argparse.Namespace:
     words.add_argument("--program", default="hpb", help="the program (default: hpb, as the shell finds it)")
     commands = words.add_subparsers(dest="command", required=True, metavar="COMMAND", help=", ".join(COMMANDS))
     parts = {name: commands.add_parser(name, help=text) for name, (text, _) in COMMANDS.items()}
-    for name in ("new", "start", "stop", "backup", "restore", "move", "export", "archive", "mock", "reauction"):
+    for name in ("new", "start", "stop", "standby", "backup", "restore", "move", "export", "archive", "mock", "reauction"):
         parts[name].add_argument("name", help="the auction: 1 to 16 of a to z, 0 to 9 and _")
     add_words_of_new(parts["new"])
     parts["status"].add_argument("names", nargs="+", help="the auctions")
@@ -108,6 +109,10 @@ def start(auctions: Auctions, given: argparse.Namespace) -> str:
 def stop(auctions: Auctions, given: argparse.Namespace) -> str:
     running.stop(auctions.named(given.name))
     return f"STOPPED {given.name}\n"
+
+
+def stand_by(auctions: Auctions, given: argparse.Namespace) -> str:
+    standby.serve(auctions.named(given.name), given.program, lambda line: write_out(f"{line}\n"))
 
 
 def show_all(auctions: Auctions, given: argparse.Namespace) -> str:
@@ -177,6 +182,7 @@ COMMANDS: dict[str, tuple[str, Callable[[Auctions, argparse.Namespace], str]]] =
     "new": ("make an auction", make),
     "start": ("start its front", start),
     "stop": ("stop its front", stop),
+    "standby": ("wait until nobody serves it, and serve it then", stand_by),
     "list": ("show all auctions", show_all),
     "status": ("show some auctions", show_some),
     "backup": ("make a backup, also while it runs", back_up),
