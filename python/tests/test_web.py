@@ -181,6 +181,7 @@ def test_failed_tries_are_slowed_and_noted_without_the_token() -> None:
     async def look() -> None:
         front = began()
         async with visited(front) as visitor:
+            visitor.stop_clock()
             assert (await visitor.ask("GET", "/v1/auction")).status == 200
             tries = [await visitor.ask("GET", "/v1/auction", None, headers={"Authorization": f"Bearer a-guess-of-nobody-{number}"}) for number in range(8)]
             assert [one.status for one in tries] == [401] * FREE + [429] * 3

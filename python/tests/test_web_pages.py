@@ -96,6 +96,7 @@ def test_a_cookie_that_was_there_before_is_never_taken_for_a_session() -> None:
 def test_a_wrong_name_or_token_is_slowed_by_name_and_address() -> None:
     async def look() -> None:
         async with visited(began()) as visitor:
+            visitor.stop_clock()
             statuses = []
             for token in ("a-token-of-nobody-at-all", token_of("bob"), "short", "x" * 200, "a-token-of-nobody-at-all", token_of("ann")):
                 eve = await Browser(visitor).sign_in("ann", token)
