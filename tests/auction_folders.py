@@ -2,7 +2,9 @@
 
 from __future__ import annotations
 
+import itertools
 import os
+import re
 import signal
 import subprocess
 from pathlib import Path
@@ -13,6 +15,9 @@ from harness.programs import Program
 
 TOP = Path(__file__).resolve().parent.parent
 SECONDS = 300
+# Of a process that runs tests: it has 500 ports below those that the system gives to clients, and a folder of auctions takes ten.
+WORKER = int(re.sub(r"\D", "", os.environ.get("PYTEST_XDIST_WORKER", "0")) or 0)
+FIRST_PORTS = itertools.cycle(range(10_000 + WORKER % 40 * 500, 10_500 + WORKER % 40 * 500, 10))
 DEFINITION = (TOP / "examples" / "package-beats-parts.txt").read_text().splitlines()[0]
 
 
@@ -21,13 +26,15 @@ class Folder:
 
     def __init__(self, program: Program, folder: Path) -> None:
         self.program, self.folder = program, folder / "auctions"
+        # Tests beside this one have folders of their own, so each has ports of its own, too.
+        self.first_port = next(FIRST_PORTS)
         self.folder.mkdir(mode=0o700)
         self.definition = folder / "definition.json"
         self.definition.write_text(DEFINITION)
 
     def ran(self, *words: object, conditions: Conditions = Conditions()) -> subprocess.CompletedProcess[str]:
         """Runs the command, whatever its status."""
-        whole = [*tool_words("auction"), "--folder", str(self.folder), "--program", str(self.program.path), *map(str, words)]
+        whole = [*tool_words("auction"), "--folder", str(self.folder), "--first-port", str(self.first_port), "--program", str(self.program.path), *map(str, words)]
         variables = with_package(conditions.variables())
         return subprocess.run(whole, env=variables, capture_output=True, text=True, timeout=SECONDS, check=False, preexec_fn=conditions.prepare)
 

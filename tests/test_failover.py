@@ -28,7 +28,7 @@ from harness.programs import Program
 
 SECONDS = 900
 MEMORY = Path("/dev/shm")
-# The stories of the gate: the server alone and a front, in both layouts.
+# The stories of the short form: the server alone and a front, in both layouts.
 SHORT = [
     Plan(writer_lost, front=True, layout=Layout.PAGES, seed=1),
     Plan(idle_and_cut, front=False, layout=Layout.CELLS, seed=2),
@@ -63,6 +63,7 @@ def told(cluster: Cluster, volume: Volume, program: Program, plan: Plan) -> Resu
     return result
 
 
+@pytest.mark.slow
 def test_an_auction_outlives_each_story(cluster: Cluster, program: Program) -> None:
     volume = Volume(cluster)
     volume.make()
@@ -79,6 +80,7 @@ def test_an_auction_outlives_many_stories(cluster: Cluster, program: Program) ->
     assert not [fault for result in results for fault in result.faults], table(results)
 
 
+@pytest.mark.slow
 def test_a_trial_finds_what_breaks_a_promise(cluster: Cluster, program: Program, library: Library, room: Path) -> None:
     """Without a quorum two machines go on, each by itself. If syncs lie, and writes wait in the memory of one machine, a server that is cut off
     acknowledges bids that no other machine has."""
@@ -93,6 +95,7 @@ def test_a_trial_finds_what_breaks_a_promise(cluster: Cluster, program: Program,
         assert told(cluster, volume, program, Plan(cut_from_all, front=False, layout=Layout.PAGES, seed=12)).faults
 
 
+@pytest.mark.slow
 def test_a_standby_names_the_promise_that_an_option_breaks(cluster: Cluster, program: Program) -> None:
     volume = Volume(cluster)
     volume.make()

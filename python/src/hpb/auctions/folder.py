@@ -89,9 +89,10 @@ class Auction:
 
 @dataclass(frozen=True)
 class Auctions:
-    """The folder of all auctions."""
+    """The folder of all auctions. Ports of new ones go on from `first_port`; if that is None, each kind of port has numbers of its own."""
 
     folder: pathlib.Path
+    first_port: int | None = None
 
     def all(self) -> list[Auction]:
         """The auctions in the order of their names."""

@@ -1,12 +1,14 @@
 """Makes an auction: its file, its certificate, its tokens and its configuration, all or nothing."""
 import contextlib
 import csv
+import errno
 import importlib.util
 import json
 import os
 import pathlib
 import re
 import shutil
+import socket
 import subprocess
 from collections.abc import Iterator
 from dataclasses import dataclass
@@ -22,6 +24,7 @@ from hpb.rules.tree import tree_of
 
 # The ports of the first auction: of front, page and metrics. Each further auction has the next that are free.
 PORTS = {"listen": 6000, "board": 8443, "metrics": 9464}
+MOST_PORT = 65_535
 MOST_AUCTIONS = 1_000
 LOCAL = "127.0.0.1"
 DAYS = 90
@@ -139,13 +142,31 @@ def address(text: str) -> tuple[str, int]:
 
 
 def ports_for(auctions: Auctions) -> dict[str, int]:
-    """The next ports that no other auction of the folder has."""
+    """The next ports that no other auction of the folder has, and that nobody on this machine listens at."""
     taken = {int(one.rpartition(":")[2]) for auction in auctions.all() for one in auction.addresses() if one.rpartition(":")[2].isdecimal()}
     for place in range(MOST_AUCTIONS):
-        ports = {field: first + place for field, first in PORTS.items()}
-        if not taken & set(ports.values()):
+        ports = ports_at(auctions, place)
+        if max(ports.values()) <= MOST_PORT and not taken & set(ports.values()) and all(is_free(port) for port in ports.values()):
             return ports
-    raise CantDo(f"{auctions.folder} has {MOST_AUCTIONS:,} auctions already")
+    raise CantDo(f"no ports are left for another auction of {auctions.folder}")
+
+
+def ports_at(auctions: Auctions, place: int) -> dict[str, int]:
+    """The ports of the auction at a place, from 0 on."""
+    if auctions.first_port is None:
+        return {field: first + place for field, first in PORTS.items()}
+    return {field: auctions.first_port + place * len(PORTS) + number for number, field in enumerate(PORTS)}
+
+
+def is_free(port: int) -> bool:
+    """Whether nobody listens at this port of the machine now."""
+    with socket.socket() as asked:
+        asked.setsockopt(socket.SOL_SOCKET, socket.SO_REUSEADDR, 1)
+        try:
+            asked.bind(("", port))
+        except OSError as fault:
+            return fault.errno != errno.EADDRINUSE
+    return True
 
 
 # The definition.

@@ -50,10 +50,18 @@ from hpb.commands.shell import end_by_signals, from_shell, say
 FAILED = 1
 
 
+def port(text: str) -> int:
+    """A port: 1 to 65,535."""
+    if not text.isdecimal() or not 1 <= int(text) <= making.MOST_PORT:
+        raise argparse.ArgumentTypeError("a port is a number from 1 to 65,535")
+    return int(text)
+
+
 def read_words() -> argparse.Namespace:
     words = parser(__doc__)
     words.add_argument("--folder", type=pathlib.Path, default=pathlib.Path(STANDARD), help=f"the folder of the auctions (default {STANDARD})")
     words.add_argument("--program", default="hpb", help="the program (default: hpb, as the shell finds it)")
+    words.add_argument("--first-port", type=port, metavar="PORT", help="the first port for new auctions (default: 6000 for fronts, 8443 for pages, 9464 for metrics)")
     commands = words.add_subparsers(dest="command", required=True, metavar="COMMAND", help=", ".join(COMMANDS))
     parts = {name: commands.add_parser(name, help=text) for name, (text, _) in COMMANDS.items()}
     for name in ("new", "start", "stop", "standby", "backup", "restore", "move", "export", "archive", "mock", "reauction"):
@@ -201,7 +209,7 @@ def main() -> int:
     """Reads the arguments, and returns the status."""
     given = read_words()
     try:
-        write_out(COMMANDS[given.command][1](Auctions(given.folder.absolute()), given))
+        write_out(COMMANDS[given.command][1](Auctions(given.folder.absolute(), given.first_port), given))
     except CantDo as fault:
         say(fault)
         return FAILED
