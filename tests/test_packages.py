@@ -23,6 +23,8 @@ TOP = Path(__file__).resolve().parent.parent
 SECONDS = 1_200
 # The package of which a build makes another version.
 LATER = "0.1.1"
+# Seconds from the installation to the first accepted bid.
+FIRST_SECONDS = 120
 # A service of the packages may be exposed by so much, in tenths, as systemd-analyze counts it.
 MOST_EXPOSED = 20
 SALE = r"""
@@ -271,3 +273,20 @@ def test_a_program_that_the_gate_didnt_prove_isnt_packed_as_a_proved_one(tmp_pat
     assert ran.returncode == 1
     assert ran.stderr == ("packaging/build: the program and its sources aren't those that the gate proved (crates/hpb/out/manifest.sha256); run .ci/run\n")
     assert list((tmp_path / "out").iterdir()) == []
+
+
+def test_the_readmes_commands_lead_to_an_accepted_bid_within_two_minutes(packages: list[Path], tmp_path_factory: pytest.TempPathFactory, lack: Lack) -> None:
+    """On a machine that has never had the packages: its commands word for word, but for `sudo`."""
+    text = (TOP / "README.md").read_text().split("## The first minutes")[1].split("\n## ")[0]
+    commands = "\n".join(line[4:].replace("sudo ", "") for line in text.splitlines() if line.startswith("    "))
+    assert len(commands.splitlines()) == 4
+    try:
+        with Machine(tmp_path_factory.mktemp("first")) as machine:
+            for package in packages:
+                machine.put(package, f"/tmp/{package.name}")
+            began = time.monotonic()
+            said = machine.shell(f"cd /tmp\n{commands.replace('apt install', 'apt-get install --yes --no-install-recommends')}")
+            assert said.splitlines()[-1] == "OK 1" and time.monotonic() - began < FIRST_SECONDS
+            assert machine.run("systemctl", "is-active", "hpb-front@sale") == "active\n"
+    except (Lacking, PermissionError) as reason:
+        lack(reason)

@@ -21,7 +21,7 @@ from hpb.front.machine import Machine
 from hpb.own_files import MODE
 from hpb.threads import in_thread
 
-# So many seconds a connection may last, and so commands may stand still.
+# So many seconds a connection may be silent at first, and commands may stand still.
 SECONDS = 10.0
 MOST_BYTES = 256
 FREEZE, FROZEN, THAW, THAWED, BUSY = b"FREEZE\n", "FROZEN", b"THAW\n", "THAWED", b"BUSY\n"
@@ -50,32 +50,34 @@ class Control:
         """Serves one connection. Whatever is wrong with it, it ends, and commands go on."""
         try:
             with contextlib.suppress(OSError, ValueError, asyncio.TimeoutError):
-                await asyncio.wait_for(self.answer(reader, writer), SECONDS)
+                if await asyncio.wait_for(reader.readline(), SECONDS) == FREEZE:
+                    await self.freeze(reader, writer)
         finally:
             writer.transport.abort()
 
-    async def answer(self, reader: asyncio.StreamReader, writer: asyncio.StreamWriter) -> None:
-        if await reader.readline() != FREEZE:
-            return
+    async def freeze(self, reader: asyncio.StreamReader, writer: asyncio.StreamWriter) -> None:
+        """Freezes commands until the word to thaw, and says then that they stood still all the time."""
         if self.frozen:
-            await send(writer, BUSY)
+            await asyncio.wait_for(send(writer, BUSY), SECONDS)
             return
-        self.frozen = asyncio.get_running_loop().create_future()
-        began, outcome = time.monotonic(), "broken"
+        self.frozen, began, is_whole = asyncio.get_running_loop().create_future(), time.monotonic(), False
         try:
             self.machine.post(AskFreeze())
-            frozen = await self.frozen
-            await send(writer, f"{FROZEN} {frozen.count} {frozen.place.number} {frozen.place.hash}\n".encode())
-            # A front that ends has let commands go on by itself.
-            if await reader.readline() == THAW and self.machine.front.freeze is Freeze.STANDS:
-                outcome = "whole"
+            is_whole = await asyncio.wait_for(self.stand(self.frozen, reader, writer), SECONDS)
         finally:
             self.frozen = None
             self.machine.post(Thaw())
             microseconds = round((time.monotonic() - began) * MICROSECONDS)
-            self.log.write("freeze", outcome=outcome, microseconds=microseconds)
-        if outcome == "whole":
-            await send(writer, f"{THAWED} {microseconds}\n".encode())
+            self.log.write("freeze", outcome="whole" if is_whole else "broken", microseconds=microseconds)
+        if is_whole:
+            await asyncio.wait_for(send(writer, f"{THAWED} {microseconds}\n".encode()), SECONDS)
+
+    async def stand(self, stands: asyncio.Future[Frozen], reader: asyncio.StreamReader, writer: asyncio.StreamWriter) -> bool:
+        """Says that commands stand still, and waits for the word to thaw. The result is whether they stood still until then."""
+        frozen = await stands
+        await send(writer, f"{FROZEN} {frozen.count} {frozen.place.number} {frozen.place.hash}\n".encode())
+        # A front that ends has let commands go on by itself.
+        return await reader.readline() == THAW and self.machine.front.freeze is Freeze.STANDS
 
 
 async def send(writer: asyncio.StreamWriter, line: bytes) -> None:
