@@ -1,4 +1,4 @@
-"""What is left of an auction's nodes once some licences are sold, by hand."""
+"""The rest of an auction's nodes once some licences are sold, by hand."""
 from __future__ import annotations
 
 import pytest

@@ -71,8 +71,16 @@ def look_for_other(auctions: Auctions, wanted: Auction, record: bytes) -> None:
     """Two fronts must never serve one auction: a CantDo names another auction of the folder with the same record."""
     begin = record[: record.find(b"\n") + 1]
     for other in auctions.all():
-        if begin and other.name != wanted.name and other.has_record() and first_line(str(other.path("record"))) == begin:
+        if begin and other.name != wanted.name and beginning_of(other) == begin:
             raise CantDo(f"{other.name} has the same record, and two would be served as one auction: move it away first")
+
+
+def beginning_of(auction: Auction) -> bytes:
+    """The first entry of an auction's record; empty if there is none, or if the configuration can't be read."""
+    try:
+        return first_line(str(auction.path("record"))) if auction.has_record() else b""
+    except CantDo:
+        return b""
 
 
 def look_for_loss(there: Auction, found: Backup, record: str, file: str) -> None:
