@@ -284,6 +284,7 @@ def look(seen: Counter[int], sizes: list[int], count: int) -> None:
     assert sizes[-1] - sizes[2] < 20_000, sizes
 
 
+@pytest.mark.timeout(400)
 def test_two_thousand_requests_by_dice(tmp_path: pathlib.Path) -> None:
     look(*asyncio.run(fuzz(2_000, 1, tmp_path)), 2_000)
 
