@@ -47,14 +47,14 @@ class Folder:
     def new(self, name: str, *words: object) -> str:
         return self.run("new", name, "--definition", self.definition, "--journal", 16, *words)
 
-    def ask(self, name: str, whose: str, *lines: str) -> list[str]:
-        """The answers of an auction's front to lines of a name."""
+    def ask(self, name: str, whose: str, *lines: str, said: str = "") -> list[str]:
+        """The answers of an auction's front to lines of a name. `said` is due on standard error."""
         made = self.folder / name
         port = read_port(made)
         words = [*tool_words("client"), f"localhost:{port}", "--token", f"{made}/auction.tokens", "--name", whose, "--ca", f"{made}/front.pem"]
         ran = subprocess.run(words, env=with_package(Conditions().variables()), input="".join(f"{line}\n" for line in lines), capture_output=True,
                              text=True, timeout=SECONDS, check=False)
-        assert (ran.returncode, ran.stderr) == (0, "")
+        assert (ran.returncode, ran.stderr) == (0, said)
         return ran.stdout.splitlines()
 
     def kill_all(self) -> None:

@@ -23,6 +23,8 @@ from harness.fronts import tool_words, with_package
 from harness.programs import Program
 from harness.serving import wait_until
 
+from hpb.rounds import NOTICE
+
 pytestmark = pytest.mark.timeout(4 * SECONDS)
 
 # Which node each bidder bids on, in the trial of a load.
@@ -160,6 +162,7 @@ def tool(name: str, *words: object) -> subprocess.CompletedProcess[str]:
                           timeout=SECONDS, check=False)
 
 
+@pytest.mark.slow
 def test_backups_that_are_made_under_load_open_and_equal_their_record(auctions: Folder, copies: Path) -> None:
     sale = auctions.folder / "sale"
     auctions.definition.write_text(json.dumps({**json.loads(DEFINITION), "percent": 1}))
@@ -466,7 +469,7 @@ def test_a_mock_has_the_same_tokens_and_addresses_of_its_own(auctions: Folder) -
     with context.wrap_socket(socket.create_connection(("127.0.0.1", read_port(trial)), SECONDS), server_hostname="localhost") as caller:
         caller.sendall(f"TOKEN {tokens['x']}\n".encode())
         assert caller.recv(100) == b"WELCOME x MOCK\n"
-    assert auctions.ask("trial", "x", "BID x 1 a 100") == ["OK 1"]
+    assert auctions.ask("trial", "x", "BID x 1 a 100", said=f"client: {NOTICE}\n") == ["OK 1"]
     assert auctions.ask("sale", "desk", "SHOW") == ["ROUND 1 STAGE 1 OPEN REVENUE 0 COUNT 0"]
     ran = auctions.ran("mock", "trial", "again")
     assert ran.returncode == 1 and ran.stderr == f"auction: {trial}/front.toml is the configuration of a mock already\n"
@@ -489,4 +492,6 @@ def test_what_nobody_won_makes_another_auction(auctions: Folder, room: Path) -> 
     again = auctions.run("reauction", "sale")
     assert json.loads(again) == wanted
     (room / "again.json").write_text(again)
-    auctions.run("new", "second", "--definition", room / "again.json", "--journal", 16)
+    ran = auctions.ran("new", "second", "--definition", room / "again.json", "--journal", 16)
+    warning = "stage 2 asks z for an activity of 38 units, and all licences have 35: each close lowers its eligibility"
+    assert (ran.returncode, ran.stderr) == (0, f"auction: warning: {warning}\n")

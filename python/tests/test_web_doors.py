@@ -8,7 +8,7 @@ import pathlib
 import resource
 import socket
 from collections.abc import AsyncIterator
-from contextlib import asynccontextmanager
+from contextlib import asynccontextmanager, suppress
 
 import pytest
 
@@ -90,6 +90,7 @@ def test_a_few_requests_ahead_are_answered() -> None:
     run(look)
 
 
+@pytest.mark.slow
 def test_a_reader_that_takes_nothing_loses_its_connection(monkeypatch: pytest.MonkeyPatch) -> None:
     monkeypatch.setattr(doors, "TAKE_SECONDS", 0.3)
 
@@ -101,12 +102,13 @@ def test_a_reader_that_takes_nothing_loses_its_connection(monkeypatch: pytest.Mo
             loop = asyncio.get_running_loop()
             await loop.sock_connect(lazy, (host, port))
             # More than the buffers of the system take, and fewer requests behind that than may wait.
-            for _ in range(MOST_OF_SYSTEM // len(OPENAPI_DOCUMENT) + 40):
-                await loop.sock_sendall(lazy, OPENAPI)
-                await asyncio.sleep(0.002)
-            async with asyncio.timeout(SECONDS):
-                while lazy.getsockopt(socket.SOL_SOCKET, socket.SO_ERROR) == 0:
-                    await asyncio.sleep(0.05)
+            with suppress(ConnectionError):
+                for _ in range(MOST_OF_SYSTEM // len(OPENAPI_DOCUMENT) + 40):
+                    await loop.sock_sendall(lazy, OPENAPI)
+                    await asyncio.sleep(0.002)
+                async with asyncio.timeout(SECONDS):
+                    while lazy.getsockopt(socket.SOL_SOCKET, socket.SO_ERROR) == 0:
+                        await asyncio.sleep(0.05)
             lazy.close()
             assert await answers(host, port)
 

@@ -108,6 +108,8 @@ class Front:
             case ["INFORMATION"]:
                 rule = self.information.running if self.information else Rule()
                 return InformationShown("running", str(rule.identities), rule.is_count_exact, rule.has_revenue)
+            case ["PREVIEW", *_] if self.auction.is_over:
+                return FrontRefused("unknown")
             case ["PREVIEW"]:
                 found = preview(self.auction)
                 return Previewed(found.round, found.revenue, len(found.short), len(found.waivers), len(found.losing), found.ends)
