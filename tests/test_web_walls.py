@@ -2,13 +2,14 @@
 
 from __future__ import annotations
 
+import re
 import subprocess
 from collections.abc import Iterator
 from pathlib import Path
 
 import pytest
 from boards import Tools
-from fronts import Front, make_certificate, token_of
+from fronts import Front, make_certificate, token_of, toml
 from harness.programs import Program
 from harness.serving import ADDRESS, free_port
 from sites_of_web import RULES, SECONDS, Person, Web
@@ -144,6 +145,20 @@ def test_a_name_with_a_certificate_is_nobody_without_it(front: Front, tools: Too
     context.load_cert_chain(clients / "eve.pem", clients / "eve.key")
     assert signed_in.ask("GET", "/desk") == 401, "a cookie that was stolen is worth nothing without the certificate"
     assert site.ask("GET", "/v1/bidders/me", "ann")[1]["word"] == "factor"
+
+
+def test_the_operator_enrols_names_by_the_tool(room: Path, tools: Tools) -> None:
+    (room / "definition.json").write_bytes(RULES)
+    fields = {"definition": "definition.json", "front": "localhost:1", "plain": True, "listen": f"{ADDRESS}:0", "codes": "codes", "title": "Coast 2026"}
+    (room / "W").write_text(toml(fields, {}))
+    written, said, status = tools.start("web", "--config", room / "W", "--enrol", "ann").ended()
+    assert (said, status) == ("", 0) and re.fullmatch(r"otpauth://totp/Coast%202026%3Aann\?secret=[A-Z2-7]{32}&issuer=Coast%202026\n", written), written
+    assert (room / "codes").stat().st_mode & 0o777 == 0o600
+    again = tools.start("web", "--config", room / "W", "--enrol", "ann").ended()
+    assert again == ("", f"web: ann has a secret: take its line out of {room / 'codes'} first\n", 1)
+    (room / "codes").chmod(0o644)
+    served = tools.start("web", "--config", room / "W").ended()
+    assert served == ("", f"web: codes: {room / 'codes'}: others may read it; `chmod 600` it, and own it\n", 1)
 
 
 def made(folder: Path, name: str) -> str:

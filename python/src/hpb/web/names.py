@@ -32,7 +32,7 @@ class Names:
     """Links by token."""
 
     def __init__(self, tree: Tree, connects: Connects, notes: Notes, clock: Callable[[], float] = time.monotonic) -> None:
-        self._tree, self._connects, self._notes, self._clock = tree, connects, notes, clock
+        self._tree, self._connects, self.notes, self._clock = tree, connects, notes, clock
         self._links: dict[str, Link] = {}
         self._tries = asyncio.Semaphore(MOST_TRIES)
         self._waiting = 0
@@ -46,15 +46,15 @@ class Names:
         if known and said in (None, known.client.name()):
             return known
         if wait := self._slowing.wait(address, said, self._clock()):
-            self._notes.note("slowed", address=address, name=said)
+            self.notes.note("slowed", address=address, name=said)
             raise problem("slow", Retry_After=str(math.ceil(wait)))
         link = None if known else await self._tried(token)
         if link is None or said not in (None, link.client.name()):
             self._slowing.failed(address, said, self._clock())
-            self._notes.note("token", address=address, name=said, outcome="unknown")
+            self.notes.note("token", address=address, name=said, outcome="unknown")
             raise problem("token", WWW_Authenticate="Bearer")
         self._slowing.succeeded(address, said)
-        self._notes.note("token", address=address, name=link.client.name(), outcome="welcome")
+        self.notes.note("token", address=address, name=link.client.name(), outcome="welcome")
         return link
 
     async def _tried(self, token: str) -> Link | None:

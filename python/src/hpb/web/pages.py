@@ -17,7 +17,6 @@ from hpb.web.factors import Factors, NotUsable
 from hpb.web.html import bar, notice, page
 from hpb.web.links import Identity, Link
 from hpb.web.names import Names
-from hpb.web.notes import Notes
 from hpb.web.problems import Problem, problem
 from hpb.web.resources import Site
 from hpb.web.sending import Sender
@@ -72,9 +71,9 @@ Page: TypeAlias = Callable[[Visit], Awaitable[web.StreamResponse]]
 class Pages:
     """The pages that everybody has, and the ways to the others."""
 
-    def __init__(self, site: Site, names: Names, factors: Factors, sender: Sender, notes: Notes, way: Way) -> None:
+    def __init__(self, site: Site, names: Names, factors: Factors, sender: Sender, way: Way) -> None:
         self.site, self.sender = site, sender
-        self._names, self._factors, self._notes, self._way = names, factors, notes, way
+        self._names, self._factors, self._notes, self._way = names, factors, names.notes, way
         self._sessions, self._strangers = Sessions(), Strangers()
 
     def add_to(self, application: web.Application) -> None:

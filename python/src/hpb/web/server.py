@@ -61,7 +61,7 @@ def application_of(config: Config, site: Site, names: Names, sender: Sender, not
     way = Way(is_secure(config), config.behind_proxy)
     factors = factors_of(config)
     Api(site, names, factors, way).add_to(application)
-    pages = Pages(site, names, factors, sender, notes, way)
+    pages = Pages(site, names, factors, sender, way)
     pages.add_to(application)
     Acting(pages).add_to(application)
     return application
