@@ -91,11 +91,12 @@ class Dice:
         path = re.sub(r"{\w+}", lambda _: urllib.parse.quote(self.dice.choice(["1", "a", "c", *WORDS])[:200].encode("utf-8", "replace")), path)
         if method == "GET":
             return self.whole("GET", path)
-        kinds: list[dict[str, Any]] = [
-            {"kind": "bid", "bidder": self.bidder(), "node": self.dice.choice("abcd"), "amount": 10 * self.dice.randrange(60), "ticket": self.dice.randrange(5)},
-            {"kind": "waive", "bidder": self.bidder(), "ticket": 2}, {"to": "all", "text": "hello"}, {"number": 1}, {"kind": "pause"}, {"ticket": 2},
-        ]
-        body = self.dice.choice(kinds)
+        bid = {"kind": "bid", "bidder": self.bidder(), "node": self.dice.choice("abcd"), "amount": self.dice.choice((100, 155, 160, 210, 590)), "ticket": self.dice.choice((1, 2, 2, 2, 3))}
+        kinds: dict[str, dict[str, Any]] = {
+            "/v1/commands": self.dice.choice([bid, bid, {"kind": "waive", "bidder": self.bidder(), "ticket": 2}]), "/v1/announcements": {"to": "all", "text": "hello"},
+            "/v1/announcements/read": {"number": 1}, "/v1/clock": {"kind": "pause"}, "/v1/agreements": {"ticket": 2},
+        }
+        body = kinds[path] if self.dice.random() < 0.9 else self.dice.choice(list(kinds.values()))
         for _ in range(self.dice.choice((0, 0, 1, 2))):
             body[self.dice.choice(FIELDS)] = self.dice.choice(VALUES)
         self.headers["Content-Type"] = self.dice.choice(["application/json"] * 20 + TYPES)
