@@ -4,6 +4,7 @@ from __future__ import annotations
 
 import base64
 import json
+import subprocess
 from collections.abc import Callable, Sequence
 from pathlib import Path
 from typing import Any
@@ -15,7 +16,7 @@ from hpb.record import Entry, New, Place, RecordFile
 from hpb.record.entries import entry_line
 from hpb.record.segments import MOST_SEGMENT
 from hpb.rules import Auction, answer, begin, read_definition
-from hpb.rules.writing import fields_of
+from hpb.rules.writing import definition_line, fields_of
 from hpb.seals.book import Book
 from hpb.seals.openssl import query_for, time_in, token_in
 from hpb.seals.sealing import answers_of
@@ -30,7 +31,6 @@ DEFINITION: dict[str, Any] = {
     ],
     "bidders": [{"name": "x", "units": 20}, {"name": "y", "units": 20}],
 }
-NAMES = {"desk": "auctioneer", "ann": ["x"], "bob": ["y"]}
 SENDERS = {"x": "ann", "y": "bob"}
 # A day of two rounds.
 DAY = ["BID x 1 a 100", "BID y 1 all 220", "CLOSE 1", "BID x 2 b 200", "CLOSE 2"]
@@ -55,10 +55,13 @@ class LyingBook(Book):
 class Writer:
     """Writes a record as a front does, each entry with the next second as its time."""
 
-    def __init__(self, path: Path, signer: Signer, authority: Authority | None = None, most_segment: int = MOST_SEGMENT) -> None:
+    def __init__(
+        self, path: Path, signer: Signer, authority: Authority | None = None, most_segment: int = MOST_SEGMENT, definition: object = DEFINITION,
+    ) -> None:
         self.path, self.authority, self.seconds = path, authority, 0
         self.record = RecordFile(str(path), most_segment)
-        self.definition = read_definition(json.dumps(DEFINITION).encode())
+        self.definition = read_definition(json.dumps(definition).encode())
+        self.senders = {bidder.name: SENDERS.get(bidder.name, f"of_{bidder.name}") for bidder in self.definition.bidders}
         self.auction: Auction = begin(self.definition)
         self.record.open()
         self.record.begin(fields_of(self.definition))
@@ -78,14 +81,15 @@ class Writer:
         self.book.synced()
 
     def start(self) -> None:
-        self.add("started", names=NAMES, count=self.auction.count)
+        names: dict[str, object] = {"desk": "auctioneer"}
+        names.update({name: [bidder] for bidder, name in self.senders.items()})
+        self.add("started", names=names, count=self.auction.count)
 
     def tell(self, line: str) -> None:
         """Takes a command, which has to be accepted, and seals a close."""
         self.auction, told = answer(self.auction, line)
         assert isinstance(told, Accepted), told
-        sender = SENDERS.get(line.split(" ")[1], "desk")
-        self.add("accepted", name=sender, line=line, answer=f"OK {self.auction.count}")
+        self.add("accepted", name=self.senders.get(line.split(" ")[1], "desk"), line=line, answer=f"OK {self.auction.count}")
         if line.startswith("CLOSE "):
             answers = self.change_answers(answers_of(self.auction))
             self.add("seal", round=self.auction.round - (not self.auction.is_over), count=self.auction.count, answers=answers)
@@ -113,6 +117,22 @@ class Writer:
     @property
     def lines(self) -> list[str]:
         return self.path.read_text().splitlines()
+
+
+def text_of(definition: object) -> str:
+    """A definition as its line."""
+    return definition_line(read_definition(json.dumps(definition).encode()))
+
+
+def file_of(program: Path | str, room: Path, lines: Sequence[str], definition: object = DEFINITION) -> bytes:
+    """The file of an auction with these commands, which the program has to accept."""
+    file = room / "file"
+    file.unlink(missing_ok=True)
+    given = "".join(f"{line}\n" for line in lines)
+    for words, text in ((["format", "--file", str(file), "--journal", "16"], text_of(definition)), (["run", "--file", str(file)], given)):
+        ran = subprocess.run([str(program), *words], input=text, text=True, check=True, capture_output=True, timeout=60)
+        assert "ERR" not in ran.stdout, ran
+    return file.read_bytes()
 
 
 def entry_of(line: str) -> Entry:

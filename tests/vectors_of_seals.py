@@ -13,19 +13,16 @@ import dataclasses
 import gzip
 import hashlib
 import json
-import subprocess
 import sys
 import tempfile
 from collections.abc import Callable, Iterator, Sequence
 from pathlib import Path
 from typing import Any
 
-from sealed_days import DAY, DEFINITION, Writer, at, entry_of, rewritten
+from sealed_days import DAY, DEFINITION, Writer, at, entry_of, file_of, rewritten, text_of
 from stamps import Authority
 
 from hpb.record import Entry
-from hpb.rules import read_definition
-from hpb.rules.writing import definition_line
 from hpb.seals.signing import Signer, make_key
 
 # Days that differ from DAY in some commands.
@@ -36,10 +33,6 @@ OTHER_DEFINITION = {**DEFINITION, "step": 20}
 SEGMENT = 1_500
 Line = str | int
 Case = dict[str, Any]
-
-
-def text_of(definition: object) -> str:
-    return definition_line(read_definition(json.dumps(definition).encode()))
 
 
 def packed(data: bytes) -> str:
@@ -72,13 +65,7 @@ class Maker:
 
     def file(self, lines: Sequence[str], definition: object = DEFINITION) -> str:
         """The file of an auction with these commands, in gzip and base64."""
-        file = self.folder / "file"
-        file.unlink(missing_ok=True)
-        given = "".join(f"{line}\n" for line in lines)
-        for words, text in ((["format", "--file", str(file), "--journal", "16"], text_of(definition)), (["run", "--file", str(file)], given)):
-            ran = subprocess.run([self.program, *words], input=text, text=True, check=True, capture_output=True, timeout=60)
-            assert "ERR" not in ran.stdout, ran
-        return packed(file.read_bytes())
+        return packed(file_of(self.program, self.folder, lines, definition))
 
     def case(self, name: str, lines: Sequence[str], found: Sequence[str], **more: object) -> Case:
         return {"name": name, "record": numbered(self.lines, lines), "found": list(found), **more}

@@ -10,10 +10,11 @@ import pytest
 
 from hpb.file import state_of
 from hpb.lines import Accepted
-from hpb.record import Damaged, New, Reader, RecordFile
+from hpb.record import Damaged, New, RecordFile
+from hpb.record.segments import Reader
 from hpb.rules.auction import answer, begin
 from hpb.rules.writing import read_fields
-from hpb.seals import openssl, signing
+from hpb.seals import openssl
 from hpb.seals.book import Book
 from hpb.seals.merkle import proves_consistency
 from hpb.seals.receipt import NoReceipt, read_receipt
@@ -94,7 +95,7 @@ def test_a_credential_lies_where_systemd_says(monkeypatch: pytest.MonkeyPatch) -
 
 
 def test_without_the_library_a_key_says_so(monkeypatch: pytest.MonkeyPatch, tmp_path: Path) -> None:
-    monkeypatch.setattr(signing.importlib.util, "find_spec", lambda name: None)
+    monkeypatch.setattr("importlib.util.find_spec", lambda name: None)
     with pytest.raises(NoKey, match="python3-cryptography"):
         make_key(str(tmp_path / "key"))
     assert not (tmp_path / "key").exists()

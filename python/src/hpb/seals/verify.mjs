@@ -4,7 +4,7 @@
 //
 // It needs Node 18 or later, state.mjs beside it, and `openssl` for stamps alone. Of each finding it prints `FOUND`, a word and the number of the
 // entry, with the words of docs/VERIFY.md. It ends with 0 if all is right, with 1 if something isn't, and with 2 if something can't be read. It
-// leaves out whether the rules allow each command: `hpb-verify` looks at that, too.
+// looks at commands by their numbers and tickets alone: `hpb-verify` says, too, whether the rules and the rights of their senders allow them.
 import { createHash, createPublicKey, verify } from "node:crypto";
 import { execFileSync } from "node:child_process";
 import { existsSync, mkdtempSync, readdirSync, readFileSync, rmSync, writeFileSync } from "node:fs";
@@ -49,7 +49,7 @@ function readRecord() {
   if (!numbers.every((one) => known.has(one)) || there.has(Math.max(last, 1) + 1)) return found("segment", 0), false;
   if (!numbers.map(nameOf).every(readSegment)) return false;
   if (!(entries[0]?.kind === "begin" && "definition" in entries[0])) return (entries.length = hashes.length = 0), found("record", 0), false;
-  return numbers.every(isJoined) || (found("segment", 0), false);
+  return ([1, 2].includes(entries[0].form) && numbers.every(isJoined)) || (found("segment", 0), false);
 }
 function isJoined(number) { // A segment ends with an entry `sealed`, and the next one begins with the sum of the whole file before it.
   const lines = text(nameOf(number)).split("\n").slice(0, -1), own = lines.map((line) => JSON.parse(line.slice(65)));
@@ -67,10 +67,16 @@ const isWhole = readRecord(), isThere = entries.length > 0;
 
 // The definition and the commands: null if they aren't those of an auction, as far as their form shows it.
 let auction = null;
-if (isThere) try { auction = new Auction(entries[0].definition); } catch { found("definition", 1); }
+if (isThere) try {
+  need(canonical(entries[0].definition) === definition(), "it isn't in its form"), (auction = new Auction(entries[0].definition));
+} catch { found("definition", 1); }
 if (auction && has("definition.json") && given("definition.json", (line) => canonical(JSON.parse(line))) !== canonical(entries[0].definition)) found("definition", 1);
-const accepted = entries.filter((entry) => entry.kind === "accepted");
-if (auction && (entries.some((entry) => entry.kind === "foreign") || !accepted.every((entry) => auction.record(String(entry.line))))) auction = null;
+const accepted = entries.filter((entry) => entry.kind === "accepted" || entry.kind === "foreign"), tickets = {};
+for (const [place, { kind, entry, line, answer }] of auction ? accepted.entries() : []) { // Each has the next number, and its sender's next ticket.
+  const record = kind === "accepted" ? auction.record(String(line)) : null, sender = record && ([1, 4].includes(record[0]) ? record[1] : "desk");
+  if (!record || answer !== `OK ${place + 1}` || record.readUInt32BE(4) !== (tickets[sender] ?? 0) + 1) { found("command", entry), (auction = null); break; }
+  tickets[sender] = record.readUInt32BE(4);
+}
 
 // Seals: the root of a Merkle tree (RFC 6962) over the hashes of all entries before, signed by Ed25519.
 const TIME = "[0-9]{4}-[0-9]{2}-[0-9]{2}T[0-9:.]{15}Z", NUMBER = "[1-9][0-9]{0,9}", COUNT = `0|${NUMBER}`, HASH = "[0-9a-f]{64}";
