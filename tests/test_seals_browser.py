@@ -86,7 +86,7 @@ def look_at_page(browser: Driver, front: Front) -> None:
         assert front.ask(name, line).startswith("OK ")
     seal = last_seal(front).seal
     said = f"Round 1 is sealed, by seal 1 with {seal.entries} entries and the root {seal.root}"
-    wait_until(lambda: browser.execute_script("return document.getElementById('seal').textContent").startswith(said), SECONDS, said)
+    wait_until(lambda: bool(browser.execute_script("return document.getElementById('seal').textContent").startswith(said)), SECONDS, said)
     wait_until(lambda: " STAMPED 20" in front.ask("public", "SEAL"), SECONDS, "the stamp")
     time = front.ask("public", "SEAL").split(" STAMPED ")[1].split(" ")[0]
     stamped = f"{said}, and stamped at {time[:10]} {time[11:19]} UTC."

@@ -24,7 +24,7 @@ TOP = Path(__file__).resolve().parent.parent
 SECONDS = 100
 DEFINITION = (TOP / "examples" / "package-beats-parts.txt").read_text().splitlines()[0]
 TOKEN = "token-of-ann-in-a-trial"
-CONFIGURATION = f"""file = "auction.hpb"
+CONFIGURATION = """file = "auction.hpb"
 record = "auction.record"
 tokens = "auction.tokens"
 listen = "127.0.0.1:0"
