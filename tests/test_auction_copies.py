@@ -263,7 +263,8 @@ def test_a_front_that_is_stopped_in_a_freeze_answers_what_it_has(auctions: Folde
     freezer, bidder = Freezer(sale), Caller(sale, "x")
     assert freezer.ask("FREEZE").startswith("FROZEN 0 ")
     bidder.send("BID x 1 a 100")
-    bidder.send("SHOW")
+    # By the time at which a later connection is answered, the front has taken the bid.
+    assert Caller(sale, "y").ask("SHOW") == "ROUND 1 STAGE 1 OPEN REVENUE 0 COUNT 0"
     os.kill(int((sale / "front.pid").read_text()), signal.SIGTERM)
     assert bidder.answer() == "OK 1"
     # The copy that was made meanwhile isn't called good.
