@@ -11,6 +11,8 @@ from hpb.seals.findings import Findings
 from hpb.seals.statement import SEAL
 
 _NEEDED = {"entry", "before", "at", "kind"}
+# An accepted command has these besides, each a text.
+_OF_COMMAND = ("name", "line", "answer")
 
 
 @dataclass
@@ -97,7 +99,7 @@ def _fault_of(line: bytes, chain: Chain) -> tuple[str, int, str] | None:
     if not is_sealed(line):
         return "changed", number, "its hash isn't that of its text"
     entry = _entry_in(line)
-    if not _NEEDED <= entry.keys():
+    if not _NEEDED <= entry.keys() or entry["kind"] == "accepted" and not all(isinstance(entry.get(name), str) for name in _OF_COMMAND):
         return "changed", number, "it is no entry of a record"
     if isinstance(entry["entry"], bool) or entry["entry"] != number:
         return "order", number, f"entry {entry['entry']} stands in its place: one was left out, doubled or moved"

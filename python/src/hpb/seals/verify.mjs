@@ -25,16 +25,21 @@ const given = (name, take) => { try { return take(text(name)); } catch (fault) {
 const need = (isRight, why) => { if (!isRight) throw new Error(why); };
 
 // The record: its segments, and their lines up to the first that isn't as a front writes it.
+const STATE = ["names", "count", "foreign", "used", "open"];
 const entries = [], hashes = [], NONE = "0".repeat(64), NAME = "auction.record", nameOf = (number) => (number === 1 ? NAME : `${NAME}.${number}`);
 function entryOf(line) {
   try { return ASCII.test(line) && line[64] === " " && hashOf(line.slice(65)) === line.slice(0, 64) ? JSON.parse(line.slice(65)) : null; } catch { return null; }
+}
+function isEntry(entry) {
+  const isCommand = entry?.kind === "accepted", isText = (field) => typeof entry[field] === "string";
+  return Object(entry) === entry && ["entry", "before", "at", "kind"].every((field) => field in entry) && (!isCommand || ["name", "line", "answer"].every(isText));
 }
 function readSegment(name) {
   const lines = text(name).split("\n"), rest = lines.pop();
   for (const line of rest ? [...lines, null] : lines) {
     const number = entries.length + 1, entry = line === null || line.length >= 2e6 ? null : entryOf(line);
     if (line === null && rest.length < 2e6) return found("cut", number), false;
-    if (!entry || typeof entry !== "object" || !["entry", "before", "at", "kind"].every((field) => field in entry)) return found("changed", number), false;
+    if (!isEntry(entry)) return found("changed", number), false;
     if (entry.entry !== number) return found("order", number), false;
     if (entry.before !== (hashes.at(-1) ?? NONE)) return found("before", number), false;
     entries.push(entry), hashes.push(line.slice(0, 64));
@@ -49,7 +54,8 @@ function readRecord() {
   if (!numbers.every((one) => known.has(one)) || there.has(Math.max(last, 1) + 1)) return found("segment", 0), false;
   if (!numbers.map(nameOf).every(readSegment)) return false;
   if (!(entries[0]?.kind === "begin" && "definition" in entries[0])) return (entries.length = hashes.length = 0), found("record", 0), false;
-  return ([1, 2].includes(entries[0].form) && numbers.every(isJoined)) || (found("segment", 0), false);
+  const { form, state } = entries[0], isBegun = form === 1 || (form === 2 && "segment" in entries[0] && STATE.every((one) => one in Object(state)));
+  return (isBegun && numbers.every(isJoined)) || (found("segment", 0), false);
 }
 function isJoined(number) { // A segment ends with an entry `sealed`, and the next one begins with the sum of the whole file before it.
   const lines = text(nameOf(number)).split("\n").slice(0, -1), own = lines.map((line) => JSON.parse(line.slice(65)));
